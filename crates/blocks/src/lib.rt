@@ -1,0 +1,1 @@
+// Blocks and loose contents. The definitions are in specs/, their laws in proofs/.

@@ -1,0 +1,1 @@
+// Names of references. The definitions are in specs/, their laws in proofs/.

@@ -1,0 +1,1 @@
+// Search, following and listing. The definitions are in specs/, demand 3 in proofs/Claims.antt.
