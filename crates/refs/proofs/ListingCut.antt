@@ -11,7 +11,7 @@ use Rattle.names.specs.Category.{is-private}
 use Rattle.names.specs.Route.{shared}
 use Rattle.blocks.specs.Content.{object}
 use Rattle.blocks.specs.Entry.{Entry, damaged, failed, loose, unread, packed-record, name-of}
-use Rattle.refs.specs.Snapshot.{Store, or-empty, is-there, common-or, region-at}
+use Rattle.blocks.specs.Snapshot.{Store, or-empty, is-there, common-or, region-at}
 use Rattle.refs.specs.Answer.{Answer, found, strip-answer, block-of}
 use Rattle.refs.specs.View.{shown-if, see, Scope, worktree-shows, common-shows, packed-shows}
 use Rattle.refs.proofs.Blocks.{block-bears}

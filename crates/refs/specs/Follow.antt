@@ -6,7 +6,7 @@ use mathlib.Core.Option.{Option}
 use Rattle.names.specs.Bytes.{Bytes, if_then_else_, same}
 use Rattle.names.specs.Namespace.{expansion}
 use Rattle.blocks.specs.Content.{Target, object, symbolic}
-use Rattle.refs.specs.Snapshot.{Snapshot, Store, store, store-flaw}
+use Rattle.blocks.specs.Snapshot.{Snapshot, Store, store, store-flaw}
 use Rattle.refs.specs.Answer.{Reference, Answer, nothing, found, refused}
 use Rattle.refs.specs.Search.{search, Result, after-checks, call-check}
 
