@@ -45,7 +45,7 @@ index others-agree = 10
 index both-or-neither-common = 11
 
 -- the premise p, unless it is the one left out
-abbrev kept : Option Premise → Premise → Bool
+abbrev pub kept : Option Premise → Premise → Bool
 kept none p = true
 kept (some q) p = not (eqb (index q) (index p))
 
