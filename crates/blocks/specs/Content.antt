@@ -7,6 +7,7 @@ use lib.ListN.{length, take, drop}
 use Rattle.names.specs.Bytes.{Bytes, bytes, if_then_else_, same, starts-with, every, after}
 use Rattle.names.specs.WellFormed.{complete}
 
+-- `Target`: an object id, or the name of another reference
 pub data Target : Type 0 where
   object : Bytes → Target
   symbolic : Bytes → Target
@@ -24,6 +25,7 @@ is-hex b = leb 48 b && leb b 57 || leb 65 b && leb b 70 || leb 97 b && leb b 102
 abbrev pub lower : ℕ → ℕ
 lower b = if leb 65 b && leb b 90 then b + 32 else b
 
+-- the same for all bytes of an id
 abbrev pub lower-case : Bytes → Bytes
 lower-case s = map lower s
 
@@ -52,6 +54,7 @@ read-target t =
 
 -- ---- ids
 
+-- the first byte is a digit
 unfoldable pub begins-hex : Bytes → Bool
 begins-hex [] = false
 begins-hex (b ∷ s) = is-hex b

@@ -21,6 +21,7 @@ bytes (String._∷_ c s) = code c ∷ bytes s
 abbrev pub slash : ℕ
 slash = 47
 
+-- the first where the test holds, else the second
 abbrev pub if_then_else_ {ℓ} : {A : Type ℓ} → Bool → A → A → A
 if true then x else y = x
 if false then x else y = y

@@ -38,6 +38,7 @@ pub record Class : Type 0 where
   pub category : Category
   pub off : ℕ
 
+-- a category that takes off so many bytes
 abbrev pub class : Category → ℕ → Option Class
 class c off = some (record { category = c; off = off })
 
@@ -86,6 +87,7 @@ classify s =
 
 -- ---- what is read off it
 
+-- no category where the name has no class
 abbrev pub category-in : Option Class → Option Category
 category-in none = none
 category-in (some k) = some (k .category)
@@ -95,9 +97,11 @@ abbrev pub off-in : Option Class → ℕ
 off-in none = 0
 off-in (some k) = k .off
 
+-- `category`
 unfoldable pub category : Bytes → Option Category
 category s = category-in (classify s)
 
+-- the short name: the whole name where there is no category
 unfoldable pub short-name : Bytes → Bytes
 short-name s = drop (off-in (classify s)) s
 

@@ -13,6 +13,7 @@ unfoldable pub expand-rest : Bytes → Bytes
 expand-rest [] = bytes "/"
 expand-rest (b ∷ s) = if eqb b slash then bytes "/refs/namespaces/" ++ expand-rest s else b ∷ expand-rest s
 
+-- the namespace's expansion
 unfoldable pub expand : Bytes → Bytes
 expand s = bytes "refs/namespaces/" ++ expand-rest s
 

@@ -51,6 +51,7 @@ module _ (width : ℕ) (e : Bytes) (s : Store) where
   follow-answer (refused k) = barred k
   follow-answer (found r) = follow-from max-ref-depth [] r
 
+  -- from the name x: the first search, then from what it finds
   unfoldable pub following : Bytes → Followed
   following x = follow-answer (search width e s x .answer)
 

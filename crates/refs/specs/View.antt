@@ -14,6 +14,7 @@ pub data Seen : Type 0 where
   fault : Answer → Seen
   shown : Bytes → Answer → Seen
 
+-- an answer under a name, if it is shown
 abbrev pub shown-if : Bool → Bytes → Answer → Seen
 shown-if true n a = shown n a
 shown-if false n a = passed-over
@@ -51,9 +52,11 @@ worktree-shows c n = starts-with (c .loose-under) n && well-formed n
 abbrev pub common-shows : Scope → Bytes → Bool
 common-shows c n = starts-with (c .loose-under) n && well-formed n && not (is-private n)
 
+-- the same for packed, where names are well formed already
 abbrev pub packed-shows : Scope → Bytes → Bool
 packed-shows c n = starts-with (c .packed-under) n
 
+-- how a listing of that scope sees each region
 abbrev pub view : ℕ → Scope → View
 view width c =
     record {
