@@ -1,4 +1,5 @@
 -- Each test is one part of the definition.
+use mathlib.Core.Bool.{or-true}
 use borrow.Author.Needs.{needs}
 use borrow.Author.Tests.{not-false, not-true}
 use Rattle.names.specs.Bytes.{starts-with}
@@ -24,7 +25,7 @@ starts-with-requires-2 c κs = search needs
 
 returns-2 : tie.Need-returns-2
 unfolding looks-full
-returns-2 c = rw (← c .before .before .before .before .starts-with .ensures, c .before .before .before .if1 .left, ← c .before .starts-with2 .ensures, c .if2 .taken)
+returns-2 c = rw (← c .before .starts-with2 .ensures, c .if2 .taken, or-true)
 
 slice-aggregate-starts-with-3 : tie.Need-slice-aggregate-starts-with-3
 slice-aggregate-starts-with-3 c = search needs
@@ -34,7 +35,7 @@ starts-with-requires-3 c κs = search needs
 
 returns-3 : tie.Need-returns-3
 unfolding looks-full
-returns-3 c = rw (← c .before .before .before .before .before .before .before .starts-with .ensures, c .before .before .before .before .before .before .if1 .left, ← c .before .before .before .before .starts-with2 .ensures, c .before .before .before .if2 .left, ← c .before .starts-with3 .ensures, c .if3 .taken)
+returns-3 c = rw (← c .before .starts-with3 .ensures, c .if3 .taken, or-true)
 
 returns-4 : tie.Need-returns-4
 unfolding looks-full
