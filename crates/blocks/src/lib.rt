@@ -1,1 +1,3 @@
 // Blocks and loose contents. The definitions are in specs/, their laws in proofs/.
+pub mod block;
+pub mod parse;

@@ -1,0 +1,218 @@
+// A block of 512 bytes: its fields, and when it is damaged.
+ghost use mathlib.Core.Path.{_≡_};
+ghost use Prim.Native.Nat.{_+_, _*_, _<_, _≤_};
+ghost use mathlib.Core.Bool.{_&&_};
+ghost use lib.Dec.{leb};
+ghost use lib.ListN.{length, take};
+ghost use Rattle.names.specs.Bytes.{every};
+ghost use Rattle.blocks.specs.Layout.{block-size, sum-at};
+ghost use Rattle.blocks.specs.Block.{is-zero, block-name, content-length, name-length, weighted, sum-right, lengths-right, unused-zero, kind-suits};
+ghost use Rattle.blocks.specs.Means.{stored-sum, region-of, block-at, block-count, content-within, Within};
+
+// The layout. Every other number of it follows from these.
+pub const BLOCK_SIZE: usize = 512;
+
+pub const MOST_BLOCKS: usize = 4096;
+
+pub const KIND_AT: usize = 0;
+
+pub const NAME_LENGTH_AT: usize = 1;
+
+pub const CONTENT_LENGTH_AT: usize = 2;
+
+pub const ZERO_AT: usize = 4;
+
+pub const NAME_AT: usize = 8;
+
+pub const CONTENT_AT: usize = 258;
+
+pub const LONGEST_CONTENT: usize = 250;
+
+pub const SUM_AT: usize = 508;
+
+// The kinds.
+pub const LOOSE: u8 = 1;
+
+pub const UNREAD: u8 = 2;
+
+pub const WALK_ERROR: u8 = 3;
+
+pub const RECORD: u8 = 4;
+
+pub const PACKED_ERROR: u8 = 5;
+
+const LONGEST: usize = 250;
+
+// A region is worktree, common or packed.
+pub enum Region {
+    Worktree,
+    Common,
+    Packed,
+}
+
+// Half of the bytes that the sum covers.
+const HALF: usize = SUM_AT / 2;
+
+fn size(x: u8) -> usize
+    ensures { λ r. ⌜ (r ≡ x) × (r ≤ 255) ⌝ }
+{
+    x as usize
+}
+
+fn wide(x: u8) -> u32
+    ensures { λ r. ⌜ (r ≡ x) × (r ≤ 255) ⌝ }
+{
+    x as u32
+}
+
+fn half(x: u8) -> u16
+    ensures { λ r. ⌜ (r ≡ x) × (r ≤ 255) ⌝ }
+{
+    x as u16
+}
+
+fn full(x: u16) -> u32
+    ensures { λ r. ⌜ r ≡ x ⌝ }
+{
+    x as u32
+}
+
+// The weighted sum of a block. Both halves go by the weights 1 to 254, so that each product fits 16 bits and eight are made at once;
+// what the second half lacks, 254 times its plain sum, is added last.
+fn block_sum(b: &[u8]) -> u32
+    requires { ⌜ length (now b) ≡ block-size ⌝ }
+    ensures { λ r. ⌜ r ≡ weighted 0 (take sum-at (now (b .entry))) ⌝ }
+{
+    let mut s: u32 = 0;
+    let mut t: u32 = 0;
+    let mut k: usize = 0;
+    while k < HALF {
+        let w = (k as u16) + 1;
+        let p = w * half(b[k]);
+        let q = w * half(b[k + HALF]);
+        s += full(p) + full(q);
+        t += wide(b[k + HALF]);
+        k += 1;
+    }
+    s + (HALF as u32) * t
+}
+
+// The sum that a block holds, low byte first.
+fn stored_sum(b: &[u8]) -> u32
+    requires { ⌜ length (now b) ≡ block-size ⌝ }
+    ensures { λ r. ⌜ r ≡ stored-sum (now (b .entry)) ⌝ }
+{
+    wide(b[SUM_AT])
+        + wide(b[SUM_AT + 1]) * 256
+        + (wide(b[SUM_AT + 2]) + wide(b[SUM_AT + 3]) * 256) * 65536
+}
+
+fn sum_right(b: &[u8]) -> bool
+    requires { ⌜ length (now b) ≡ block-size ⌝ }
+    ensures { λ r. ⌜ r ≡ sum-right (now (b .entry)) ⌝ }
+{
+    stored_sum(b) == block_sum(b)
+}
+
+// Whether every byte of a part of a block is 0. All are looked at, so that the loop has one way out.
+fn all_zero(s: &[u8]) -> bool
+    requires { ⌜ length (now s) ≤ block-size ⌝ }
+    ensures { λ r. ⌜ r ≡ every is-zero (now (s .entry)) ⌝ }
+{
+    let mut sum: u32 = 0;
+    let mut i: usize = 0;
+    while i < s.len() {
+        sum += wide(s[i]);
+        i += 1;
+    }
+    sum == 0
+}
+
+fn name_len(b: &[u8]) -> usize
+    requires { ⌜ length (now b) ≡ block-size ⌝ }
+    ensures { λ r. ⌜ (r ≡ name-length (now (b .entry))) × (r ≤ 255) ⌝ }
+{
+    size(b[NAME_LENGTH_AT])
+}
+
+fn content_len(b: &[u8]) -> usize
+    requires { ⌜ length (now b) ≡ block-size ⌝ }
+    ensures { λ r. ⌜ (r ≡ content-length (now (b .entry))) × (r ≤ 65535) ⌝ }
+{
+    size(b[CONTENT_LENGTH_AT]) + size(b[CONTENT_LENGTH_AT + 1]) * 256
+}
+
+fn lengths_right(b: &[u8]) -> bool
+    requires { ⌜ length (now b) ≡ block-size ⌝ }
+    ensures { λ r. ⌜ r ≡ lengths-right (now (b .entry)) ⌝ }
+{
+    if name_len(b) <= LONGEST {
+        content_len(b) <= LONGEST_CONTENT
+    } else {
+        false
+    }
+}
+
+// Whether the bytes that neither the header nor name, content or sum takes are 0.
+fn unused_zero(b: &[u8]) -> bool
+    requires { ⌜ Within (now b) ⌝ }
+    ensures { λ r. ⌜ r ≡ unused-zero (now (b .entry)) ⌝ }
+{
+    if !all_zero(&b[ZERO_AT..NAME_AT]) {
+        return false;
+    }
+    let n = NAME_AT + name_len(b);
+    if !all_zero(&b[n..CONTENT_AT]) {
+        return false;
+    }
+    let c = CONTENT_AT + content_len(b);
+    all_zero(&b[c..SUM_AT])
+}
+
+fn kind_between(kind: u8, first: u8, last: u8) -> bool
+    ensures { λ r. ⌜ r ≡ (leb first kind && leb kind last) ⌝ }
+{
+    if first <= kind { kind <= last } else { false }
+}
+
+fn kind_suits(region: Region, kind: u8) -> bool
+    ensures { λ r. ⌜ r ≡ kind-suits (region-of region) kind ⌝ }
+{
+    match region {
+        Region::Worktree => kind_between(kind, LOOSE, WALK_ERROR),
+        Region::Common => kind_between(kind, LOOSE, WALK_ERROR),
+        Region::Packed => kind_between(kind, RECORD, PACKED_ERROR),
+    }
+}
+
+// The name of a block, as a part of it.
+fn name_part(b: &[u8]) -> &[u8]
+    requires { ⌜ length (now b) ≡ block-size ⌝ }
+    ensures { λ r. ⌜ now r ≡ block-name (now (b .entry)) ⌝ }
+{
+    let e = NAME_AT + name_len(b);
+    &b[NAME_AT..e]
+}
+
+// The content of a block, as a part of it: the empty part where its length is over the longest.
+fn content_part(b: &[u8]) -> &[u8]
+    requires { ⌜ length (now b) ≡ block-size ⌝ }
+    ensures { λ r. ⌜ now r ≡ content-within (now (b .entry)) ⌝ }
+{
+    let n = content_len(b);
+    if LONGEST_CONTENT < n {
+        return &b[0..0];
+    }
+    let e = CONTENT_AT + n;
+    &b[CONTENT_AT..e]
+}
+
+// Block k of a region.
+fn block_at(s: &[u8], k: usize) -> &[u8]
+    requires { ⌜ k < block-count (now s) ⌝ }
+    ensures { λ r. ⌜ (now r ≡ block-at (now (s .entry)) k) × (length (now r) ≡ block-size) ⌝ }
+{
+    let a = k * BLOCK_SIZE;
+    let e = a + BLOCK_SIZE;
+    &s[a..e]
+}
