@@ -1,14 +1,21 @@
 -- What the code's types mean, and parts that its answers speak of.
 use mathlib.Core.Path.{_≡_}
 use Prim.Native.Nat.{ℕ, _+_, _*_, _/_, _≤_}
-use mathlib.Core.List.{[]}
+use mathlib.Core.List.{[], _++_}
+use mathlib.Core.Bool.{Bool, true, false, _&&_}
+use mathlib.Core.Option.{Option, none, some}
 use lib.Dec.{leb, ltb}
-use lib.ListN.{length, take, drop}
-use Rattle.names.specs.Bytes.{Bytes, if_then_else_}
+use lib.ListN.{length, take, drop, replicate}
+use Rattle.names.specs.Bytes.{Bytes, if_then_else_, every}
+use Rattle.names.specs.Check.{Check}
 use Rattle.names.specs.Name.{longest}
 use Rattle.blocks.specs.Layout.{block-size, longest-content, sum-at}
 use Rattle.blocks.specs.Block.{Region, two-bytes, name-length, content-length, block-name, block-content}
+use Rattle.blocks.specs.Content.{is-hex, lower-case}
+use Rattle.blocks.specs.Snapshot.{Snapshot}
 use Rattle.blocks.specs.declared.block.Region as code
+use Rattle.blocks.specs.declared.fitness.Sizes.{Sizes}
+use Rattle.blocks.specs.declared.fitness.Sizes.the-variants.{Right, NotWhole, TooMany}
 
 -- "Object ids have 40 hexadecimal digits"
 abbrev pub id-width : ℕ
@@ -46,3 +53,30 @@ block-count s = length s / block-size
 -- the bytes of block i
 abbrev pub block-at : Bytes → ℕ → Bytes
 block-at s i = take block-size (drop (i * block-size) s)
+
+-- ---- ids
+
+-- the id that s begins with, zeros following where s is shorter
+abbrev pub id-in : Bytes → Bytes
+id-in s = lower-case (take id-width (s ++ replicate id-width 0))
+
+abbrev pub begins-with-id : ℕ → Bytes → Bool
+begins-with-id width s = leb width (length s) && every is-hex (take width s)
+
+-- ---- snapshots
+
+-- an absent region is none, whatever was lent for it
+abbrev pub if-there : Bool → Bytes → Option Bytes
+if-there true s = some s
+if-there false s = none
+
+abbrev pub snapshot-of : Bytes → Option Bytes → Bytes → Snapshot
+snapshot-of w c p = record { worktree = w; common = c; packed = p }
+
+abbrev pub three : (Bytes → Bool) → Bytes → Bytes → Bytes → Bool
+three f w c p = f w && f c && f p
+
+abbrev pub sizes-check : Sizes → Check
+sizes-check Right = none
+sizes-check NotWhole = some 1
+sizes-check TooMany = some 2
