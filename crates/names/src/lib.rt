@@ -1,1 +1,2 @@
 // Names of references. The definitions are in specs/, their laws in proofs/.
+pub mod bytes;
