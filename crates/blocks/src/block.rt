@@ -2,12 +2,15 @@
 ghost use mathlib.Core.Path.{_≡_};
 ghost use Prim.Native.Nat.{_+_, _*_, _<_, _≤_};
 ghost use mathlib.Core.Bool.{_&&_};
+ghost use mathlib.Core.Option.{some};
 ghost use lib.Dec.{leb};
 ghost use lib.ListN.{length, take};
-ghost use Rattle.names.specs.Bytes.{every};
+ghost use Rattle.names.specs.Bytes.{Bytes, if_then_else_, every};
 ghost use Rattle.blocks.specs.Layout.{block-size, sum-at};
-ghost use Rattle.blocks.specs.Block.{is-zero, block-name, content-length, name-length, weighted, sum-right, lengths-right, unused-zero, kind-suits};
-ghost use Rattle.blocks.specs.Means.{stored-sum, region-of, block-at, block-count, content-within, Within};
+ghost use Rattle.blocks.specs.Block.{is-zero, content-length, name-length, weighted, sum-right, lengths-right, unused-zero, kind-suits};
+ghost use Rattle.blocks.specs.Entry.{packed-record, peeled-in};
+ghost use Rattle.blocks.specs.Means.{id-width, stored-sum, region-of, block-at, block-count, name-within, content-within, Within, as-entry, taken-entry, name-in, content-in, taken-in};
+use crate::parse::ID_WIDTH;
 
 // The layout. Every other number of it follows from these.
 pub const BLOCK_SIZE: usize = 512;
@@ -185,16 +188,20 @@ fn kind_suits(region: Region, kind: u8) -> bool
     }
 }
 
-// The name of a block, as a part of it.
-fn name_part(b: &[u8]) -> &[u8]
+// The name of a block, as a part of it: the empty part where its length is over the longest.
+pub(crate) fn name_part(b: &[u8]) -> &[u8]
     requires { ⌜ length (now b) ≡ block-size ⌝ }
-    ensures { λ r. ⌜ now r ≡ block-name (now (b .entry)) ⌝ }
+    ensures { λ r. ⌜ now r ≡ name-within (now (b .entry)) ⌝ }
 {
-    let e = NAME_AT + name_len(b);
+    let n = name_len(b);
+    if LONGEST < n {
+        return &b[0..0];
+    }
+    let e = NAME_AT + n;
     &b[NAME_AT..e]
 }
 
-// The content of a block, as a part of it: the empty part where its length is over the longest.
+// Its content, in the same way.
 fn content_part(b: &[u8]) -> &[u8]
     requires { ⌜ length (now b) ≡ block-size ⌝ }
     ensures { λ r. ⌜ now r ≡ content-within (now (b .entry)) ⌝ }
@@ -208,11 +215,93 @@ fn content_part(b: &[u8]) -> &[u8]
 }
 
 // Block k of a region.
-fn block_at(s: &[u8], k: usize) -> &[u8]
+pub(crate) fn block_at(s: &[u8], k: usize) -> &[u8]
     requires { ⌜ k < block-count (now s) ⌝ }
     ensures { λ r. ⌜ (now r ≡ block-at (now (s .entry)) k) × (length (now r) ≡ block-size) ⌝ }
 {
     let a = k * BLOCK_SIZE;
     let e = a + BLOCK_SIZE;
     &s[a..e]
+}
+
+// What a block holds. Name and content stand beside it, as parts of the region.
+pub enum EntryKind {
+    // past the region's last block
+    End,
+    Damaged,
+    // a walk error or a packed error
+    Failed,
+    Loose,
+    Unread,
+    Record,
+    PeeledRecord,
+}
+
+// What a block holds, taken for sound.
+fn kind_in(b: &[u8]) -> EntryKind
+    requires { ⌜ length (now b) ≡ block-size ⌝ }
+    ensures { λ r. ⌜ as-entry id-width r (name-within (now (b .entry))) (content-within (now (b .entry))) ≡ some (taken-entry id-width (now (b .entry))) ⌝ }
+{
+    let kind = b[KIND_AT];
+    match kind {
+        LOOSE => EntryKind::Loose,
+        UNREAD => EntryKind::Unread,
+        RECORD => record_kind(content_part(b)),
+        _ => EntryKind::Failed,
+    }
+}
+
+// A record, with a peeled id or without.
+fn record_kind(content: &[u8]) -> EntryKind
+    ensures { λ r. ⌜ ((n : Bytes) → as-entry id-width r n (now (content .entry)) ≡ some (packed-record n (take id-width (now (content .entry))) (peeled-in id-width (now (content .entry))))) ⌝ }
+{
+    if content.len() <= ID_WIDTH {
+        EntryKind::Record
+    } else {
+        EntryKind::PeeledRecord
+    }
+}
+
+// The name of block k of a region, as a part of the region.
+pub fn block_name(s: &[u8], k: usize) -> &[u8]
+    ensures { λ r. ⌜ now r ≡ name-in (now (s .entry)) k ⌝ }
+{
+    if k < s.len() / BLOCK_SIZE {
+        name_part(block_at(s, k))
+    } else {
+        &s[0..0]
+    }
+}
+
+// The content of block k of a region, as a part of the region.
+pub fn block_content(s: &[u8], k: usize) -> &[u8]
+    ensures { λ r. ⌜ now r ≡ content-in (now (s .entry)) k ⌝ }
+{
+    if k < s.len() / BLOCK_SIZE {
+        content_part(block_at(s, k))
+    } else {
+        &s[0..0]
+    }
+}
+
+// The content of block k of whichever of two loose regions won.
+pub fn content_of<'a>(worktree: &'a [u8], common: &'a [u8], in_common: bool, k: usize) -> &'a [u8]
+    ensures { λ r. ⌜ now r ≡ content-in (if «in_common» then now (common .entry) else now (worktree .entry)) k ⌝ }
+{
+    if in_common {
+        block_content(common, k)
+    } else {
+        block_content(worktree, k)
+    }
+}
+
+// What block k of a region holds, taken for sound: a region fit for search has no other blocks.
+pub fn sound_kind(s: &[u8], k: usize) -> EntryKind
+    ensures { λ r. ⌜ as-entry id-width r (name-in (now (s .entry)) k) (content-in (now (s .entry)) k) ≡ taken-in id-width (now (s .entry)) k ⌝ }
+{
+    if k < s.len() / BLOCK_SIZE {
+        kind_in(block_at(s, k))
+    } else {
+        EntryKind::End
+    }
 }
