@@ -1,2 +1,4 @@
 // Names of references. The definitions are in specs/, their laws in proofs/.
 pub mod bytes;
+pub mod name;
+pub mod validate;
