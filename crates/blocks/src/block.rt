@@ -1,16 +1,19 @@
 // A block of 512 bytes: its fields, and when it is damaged.
 ghost use mathlib.Core.Path.{_≡_};
 ghost use Prim.Native.Nat.{_+_, _*_, _<_, _≤_};
-ghost use mathlib.Core.Bool.{_&&_};
+ghost use mathlib.Core.Bool.{_&&_, _||_, not};
 ghost use mathlib.Core.Option.{some};
-ghost use lib.Dec.{leb};
+ghost use lib.Dec.{leb, eqb};
 ghost use lib.ListN.{length, take};
 ghost use Rattle.names.specs.Bytes.{Bytes, if_then_else_, every};
 ghost use Rattle.blocks.specs.Layout.{block-size, sum-at};
-ghost use Rattle.blocks.specs.Block.{is-zero, content-length, name-length, weighted, sum-right, lengths-right, unused-zero, kind-suits};
+ghost use Rattle.blocks.specs.Block.{is-zero, content-length, name-length, weighted, sum-right, lengths-right, unused-zero, kind-suits, record-right, shape-right, sound};
 ghost use Rattle.blocks.specs.Entry.{packed-record, peeled-in};
-ghost use Rattle.blocks.specs.Means.{id-width, stored-sum, region-of, block-at, block-count, name-within, content-within, Within, as-entry, taken-entry, name-in, content-in, taken-in};
+ghost use Rattle.blocks.specs.Means.{id-width, stored-sum, region-of, block-at, block-count, name-within, content-within, Within, as-entry, taken-entry, name-in, content-in, entry-in, taken-in};
 use crate::parse::ID_WIDTH;
+use crate::parse::all_hex;
+use names::name::LONGEST;
+use names::validate::well_formed;
 
 // The layout. Every other number of it follows from these.
 pub const BLOCK_SIZE: usize = 512;
@@ -43,8 +46,6 @@ pub const WALK_ERROR: u8 = 3;
 pub const RECORD: u8 = 4;
 
 pub const PACKED_ERROR: u8 = 5;
-
-const LONGEST: usize = 250;
 
 // A region is worktree, common or packed.
 pub enum Region {
@@ -214,6 +215,64 @@ fn content_part(b: &[u8]) -> &[u8]
     &b[CONTENT_AT..e]
 }
 
+// One id, or two.
+fn is_id_length(n: usize) -> bool
+    ensures { λ r. ⌜ r ≡ (eqb n id-width || eqb n (id-width + id-width)) ⌝ }
+{
+    if n == ID_WIDTH {
+        true
+    } else {
+        n == ID_WIDTH + ID_WIDTH
+    }
+}
+
+fn record_right(b: &[u8]) -> bool
+    requires { ⌜ Within (now b) ⌝ }
+    ensures { λ r. ⌜ r ≡ record-right id-width (now (b .entry)) ⌝ }
+{
+    if !is_id_length(content_len(b)) {
+        return false;
+    }
+    if !all_hex(content_part(b)) {
+        return false;
+    }
+    well_formed(name_part(b))
+}
+
+// What each kind asks of name and content.
+fn shape_right(b: &[u8]) -> bool
+    requires { ⌜ Within (now b) ⌝ }
+    ensures { λ r. ⌜ r ≡ shape-right id-width (now (b .entry)) ⌝ }
+{
+    let kind = b[KIND_AT];
+    match kind {
+        UNREAD => content_len(b) == 0,
+        WALK_ERROR | PACKED_ERROR => name_len(b) + content_len(b) == 0,
+        RECORD => record_right(b),
+        _ => true,
+    }
+}
+
+// Whether a block of a region is damaged. The tests that cost little come first.
+pub(crate) fn is_damaged(b: &[u8], region: Region) -> bool
+    requires { ⌜ length (now b) ≡ block-size ⌝ }
+    ensures { λ r. ⌜ r ≡ not (sound id-width (region-of region) (now (b .entry))) ⌝ }
+{
+    if !lengths_right(b) {
+        return true;
+    }
+    if !kind_suits(region, b[KIND_AT]) {
+        return true;
+    }
+    if !shape_right(b) {
+        return true;
+    }
+    if !unused_zero(b) {
+        return true;
+    }
+    !sum_right(b)
+}
+
 // Block k of a region.
 pub(crate) fn block_at(s: &[u8], k: usize) -> &[u8]
     requires { ⌜ k < block-count (now s) ⌝ }
@@ -304,4 +363,18 @@ pub fn sound_kind(s: &[u8], k: usize) -> EntryKind
     } else {
         EntryKind::End
     }
+}
+
+// What block k of a region holds.
+pub fn entry_kind(s: &[u8], region: Region, k: usize) -> EntryKind
+    ensures { λ r. ⌜ as-entry id-width r (name-in (now (s .entry)) k) (content-in (now (s .entry)) k) ≡ entry-in id-width (region-of region) (now (s .entry)) k ⌝ }
+{
+    if s.len() / BLOCK_SIZE <= k {
+        return EntryKind::End;
+    }
+    let b = block_at(s, k);
+    if is_damaged(b, region) {
+        return EntryKind::Damaged;
+    }
+    kind_in(b)
 }
