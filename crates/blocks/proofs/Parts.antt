@@ -1,0 +1,53 @@
+-- Blocks as parts of a region, and their names and contents as parts of a block.
+use mathlib.Core.Path.{_≡_}
+use Prim.Native.Nat.{ℕ, _+_, _*_, _/_, _-_, _≤_, _<_}
+use native.Mathlib.Nat.{add-sub-cancel-left}
+use native.Mathlib.Omega.{arith}
+use mathlib.Core.List.{[]}
+use mathlib.Core.Option.{some}
+use borrow.Author.Tests.{le-leb, lt-leb, ne-eqb}
+use lib.ListN.{length, take, drop, length-take, length-drop}
+use Rattle.names.specs.Bytes.{Bytes}
+use Rattle.names.specs.Name.{longest}
+use Rattle.blocks.specs.Layout.{block-size, content-at, longest-content}
+use Rattle.blocks.specs.Block.{between, name-length, content-length, block-name, block-content}
+use Rattle.blocks.specs.Entry.{failed, loose, unread, packed-record, peeled-in, entry-of}
+use Rattle.blocks.specs.Means.{block-at, block-count, name-within, content-within}
+
+-- a part that begins at a and has n bytes
+pub part-is : (s : Bytes) (a n : ℕ) → between s a (a + n) ≡ take n (drop a s)
+part-is s a n = rw add-sub-cancel-left
+
+pub length-block : (s : Bytes) (k : ℕ) → k < block-count s → length (block-at s k) ≡ block-size
+length-block s k h = simp (length-take, length-drop) (omega arith)
+
+module _ (b : Bytes) where
+  pub name-over : longest < name-length b → [] ≡ name-within b
+  name-over h = rw (lt-leb (name-length b) longest h)
+
+  pub name-held : name-length b ≤ longest → name-within b ≡ block-name b
+  name-held h = rw (le-leb (name-length b) longest h)
+
+  pub content-over : longest-content < content-length b → [] ≡ content-within b
+  content-over h = rw (lt-leb (content-length b) longest-content h)
+
+  pub content-held : content-length b ≤ longest-content → content-within b ≡ block-content b
+  content-held h = rw (le-leb (content-length b) longest-content h)
+
+-- what the kind tells of a block that is taken for sound
+module _ (width k : ℕ) (n c : Bytes) where
+  pub taken-loose : k ≡ 1 → some (loose n c) ≡ some (entry-of width k n c)
+  unfolding entry-of
+  taken-loose e = rw e
+
+  pub taken-unread : k ≡ 2 → some (unread n) ≡ some (entry-of width k n c)
+  unfolding entry-of
+  taken-unread e = rw e
+
+  pub taken-record : k ≡ 4 → some (packed-record n (take width c) (peeled-in width c)) ≡ some (entry-of width k n c)
+  unfolding entry-of
+  taken-record e = rw e
+
+  pub taken-failed : (k ≡ 1 → ⊥) → (k ≡ 2 → ⊥) → (k ≡ 4 → ⊥) → some failed ≡ some (entry-of width k n c)
+  unfolding entry-of
+  taken-failed a b d = rw (ne-eqb k 1 a, ne-eqb k 2 b, ne-eqb k 4 d)

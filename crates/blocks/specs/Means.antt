@@ -1,0 +1,118 @@
+-- What the code's types mean, and parts that its answers speak of.
+use mathlib.Core.Path.{_≡_}
+use Prim.Native.Nat.{ℕ, _+_, _*_, _/_, _≤_}
+use mathlib.Core.List.{List, [], _∷_, _++_}
+use mathlib.Core.Bool.{Bool, true, false, _&&_}
+use mathlib.Core.Option.{Option, none, some}
+use lib.Dec.{leb, ltb}
+use lib.ListN.{length, take, drop, replicate}
+use Rattle.names.specs.Bytes.{Bytes, if_then_else_, every}
+use Rattle.names.specs.Check.{Check}
+use Rattle.names.specs.Name.{longest}
+use Rattle.blocks.specs.Layout.{block-size, longest-content, sum-at}
+use Rattle.blocks.specs.Block.{Region, two-bytes, block-kind, name-length, content-length, block-name, block-content}
+use Rattle.blocks.specs.Content.{is-hex, lower-case}
+use Rattle.blocks.specs.Entry.{Entry, damaged, failed, loose, unread, packed-record, entry-of, entries}
+use Rattle.blocks.specs.Snapshot.{Snapshot}
+use Rattle.blocks.specs.declared.block.Region as code
+use Rattle.blocks.specs.declared.block.EntryKind.{EntryKind}
+use Rattle.blocks.specs.declared.block.EntryKind.the-variants.{End, Damaged, Failed, Loose, Unread, Record, PeeledRecord}
+use Rattle.blocks.specs.declared.fitness.Sizes.{Sizes}
+use Rattle.blocks.specs.declared.fitness.Sizes.the-variants.{Right, NotWhole, TooMany}
+
+-- "Object ids have 40 hexadecimal digits"
+abbrev pub id-width : ℕ
+id-width = 40
+
+abbrev pub region-of : code.Region → Region
+region-of code.the-variants.Worktree = Region.worktree
+region-of code.the-variants.Common = Region.common
+region-of code.the-variants.Packed = Region.packed
+
+-- ---- a block
+
+-- the sum that a block holds: "Bytes 508–511, low first"
+abbrev pub stored-sum : Bytes → ℕ
+stored-sum b = two-bytes b sum-at + two-bytes b (sum-at + 2) * 65536
+
+-- a block whose lengths are right
+pub record Within (b : Bytes) : Type 0 where
+  pub size : length b ≡ block-size
+  pub name : name-length b ≤ longest
+  pub content : content-length b ≤ longest-content
+
+-- name and content of a block, empty where the length is over the longest
+abbrev pub name-within : Bytes → Bytes
+name-within b = if leb (name-length b) longest then block-name b else []
+
+abbrev pub content-within : Bytes → Bytes
+content-within b = if leb (content-length b) longest-content then block-content b else []
+
+-- what a block holds if it is sound
+abbrev pub taken-entry : ℕ → Bytes → Entry
+taken-entry width b = entry-of width (block-kind b) (name-within b) (content-within b)
+
+-- an entry, or none past the region's end: by the kind, with name and content beside it
+abbrev pub as-entry : ℕ → EntryKind → Bytes → Bytes → Option Entry
+as-entry width End n c = none
+as-entry width Damaged n c = some damaged
+as-entry width Failed n c = some failed
+as-entry width Loose n c = some (loose n c)
+as-entry width Unread n c = some (unread n)
+as-entry width Record n c = some (packed-record n (take width c) none)
+as-entry width PeeledRecord n c = some (packed-record n (take width c) (some (drop width c)))
+
+-- ---- the blocks of a region
+
+abbrev pub block-count : Bytes → ℕ
+block-count s = length s / block-size
+
+-- the bytes of block i
+abbrev pub block-at : Bytes → ℕ → Bytes
+block-at s i = take block-size (drop (i * block-size) s)
+
+-- name and content of block i, empty past the last whole block
+abbrev pub name-in : Bytes → ℕ → Bytes
+name-in s i = if ltb i (block-count s) then name-within (block-at s i) else []
+
+abbrev pub content-in : Bytes → ℕ → Bytes
+content-in s i = if ltb i (block-count s) then content-within (block-at s i) else []
+
+abbrev pub first : {A : Type 0} → List A → Option A
+first [] = none
+first (a ∷ l) = some a
+
+-- the entry of block i, none past the last
+abbrev pub entry-in : ℕ → Region → Bytes → ℕ → Option Entry
+entry-in width r s i = first (drop i (entries width r s))
+
+-- the same if every block is sound
+abbrev pub taken-in : ℕ → Bytes → ℕ → Option Entry
+taken-in width s i = if ltb i (block-count s) then some (taken-entry width (block-at s i)) else none
+
+-- ---- ids
+
+-- the id that s begins with, zeros following where s is shorter
+abbrev pub id-in : Bytes → Bytes
+id-in s = lower-case (take id-width (s ++ replicate id-width 0))
+
+abbrev pub begins-with-id : ℕ → Bytes → Bool
+begins-with-id width s = leb width (length s) && every is-hex (take width s)
+
+-- ---- snapshots
+
+-- an absent region is none, whatever was lent for it
+abbrev pub if-there : Bool → Bytes → Option Bytes
+if-there true s = some s
+if-there false s = none
+
+abbrev pub snapshot-of : Bytes → Option Bytes → Bytes → Snapshot
+snapshot-of w c p = record { worktree = w; common = c; packed = p }
+
+abbrev pub three : (Bytes → Bool) → Bytes → Bytes → Bytes → Bool
+three f w c p = f w && f c && f p
+
+abbrev pub sizes-check : Sizes → Check
+sizes-check Right = none
+sizes-check NotWhole = some 1
+sizes-check TooMany = some 2
