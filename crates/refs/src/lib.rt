@@ -1,1 +1,2 @@
 // Search, following and listing. The definitions are in specs/, demand 3 in proofs/Claims.antt.
+pub mod find;
