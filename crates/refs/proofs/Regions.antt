@@ -3,11 +3,13 @@ use mathlib.Core.Path.{_≡_, refl, sym, ap, subst, _∙_}
 use Prim.Native.Nat.{ℕ, zero, suc, _+_, _≤_, _<_, Ordering, Ordering·lt, Ordering·eq, Ordering·gt}
 use native.Mathlib.Omega.{arith}
 use mathlib.Core.List.{List, [], _∷_, _++_}
-use mathlib.Core.Bool.{Bool, true, false}
+use mathlib.Core.Bool.{Bool, true, false, _||_}
+use borrow.Author.Tests.{lt-ltb}
 use mathlib.Core.Option.{Option, none, some}
 use lib.Dec.{isEq}
 use lib.ListN.{length, drop, drop-of-length-le}
 use Rattle.names.specs.Bytes.{Bytes, order}
+use Rattle.names.specs.Name.{directory}
 use Rattle.names.proofs.Tests.{if-case, none≢some}
 use Rattle.names.proofs.Orders.{_≺_, ≺-trans, order-eq, order-refl, gt-not-lt}
 use Rattle.blocks.specs.Block.{Region, block-name, sound}
@@ -18,6 +20,7 @@ use Rattle.blocks.proofs.Raw.{Raw, raw}
 use Rattle.blocks.proofs.Walks.{length-entries}
 use Rattle.blocks.proofs.Entries.{entries-at, sound-name}
 use Rattle.refs.specs.Answer.{bears, block-of}
+use Rattle.refs.specs.Search.{clashes}
 use Rattle.refs.specs.Means.{Flawless, indexed, IndexOf}
 use Rattle.refs.specs.declared.find.Index.the-variants.{At, Nothing}
 use Rattle.refs.proofs.Blocks.{absent}
@@ -100,3 +103,20 @@ module _ (r : Region) (s : Bytes) (flawless : Flawless r s) where
     block-named =
         let t : Sorted none (drop k (entries id-width r s)) = sorted-drop k region-sorted in
         named (rw (entries-at id-width r s k h) at t)
+
+-- ---- a walk over the names
+
+module _ (p s : Bytes) (r : Region) (f : Flawless r s) (k : ℕ) where
+  clashes-at : k < block-count s → clashes p (drop k (entries id-width r s)) ≡ (directory (name-in s k) p || clashes p (drop (k + 1) (entries id-width r s)))
+  unfolding clashes
+  clashes-at h = rw (entries-at id-width r s k h, block-named r s f k h, lt-ltb k (block-count s) h)
+
+  pub clash-here : k < block-count s → directory (name-in s k) p ≡ true → clashes p (drop k (entries id-width r s)) ≡ true
+  clash-here h d = rw (clashes-at h, d)
+
+  pub clash-next : k < block-count s → directory (name-in s k) p ≡ false → clashes p (drop k (entries id-width r s)) ≡ clashes p (drop (k + 1) (entries id-width r s))
+  clash-next h d = rw (clashes-at h, d)
+
+  pub clash-end : block-count s ≤ k → clashes p (drop k (entries id-width r s)) ≡ false
+  unfolding clashes
+  clash-end h = let l : length (entries id-width r s) ≤ k = omega (arith, length-entries id-width r s) in rw (drop-of-length-le (entries id-width r s) l)

@@ -2,6 +2,7 @@
 use mathlib.Core.Path.{_≡_}
 use Prim.Native.Nat.{ℕ}
 use mathlib.Core.List.{List}
+use mathlib.Core.Bool.{Bool}
 use mathlib.Core.Option.{Option, none, some}
 use lib.ListN.{drop}
 use Rattle.names.specs.Bytes.{Bytes}
@@ -28,3 +29,7 @@ indexed Nothing l = none
 -- the index is that of the block with the name p, where the region has no flaw
 abbrev pub IndexOf : Bytes → Bytes → Index → Type 0
 IndexOf p s i = (r : Region) → Flawless r s → indexed i (entries id-width r s) ≡ block-of p (entries id-width r s)
+
+-- the answer is whether a file of the region is a directory of the path p, where the region has no flaw
+abbrev pub ClashOf : Bytes → Bytes → Bool → Type 0
+ClashOf p s b = (r : Region) → Flawless r s → b ≡ clashes p (entries id-width r s)
