@@ -1,6 +1,6 @@
 -- What the code's types mean, and parts that its answers speak of.
 use mathlib.Core.Path.{_≡_}
-use Prim.Native.Nat.{ℕ, _+_, _*_, _/_, _≤_}
+use Prim.Native.Nat.{ℕ, zero, suc, _+_, _*_, _/_, _≤_}
 use mathlib.Core.List.{List, [], _∷_, _++_}
 use mathlib.Core.Bool.{Bool, true, false, _&&_}
 use mathlib.Core.Option.{Option, none, some}
@@ -13,12 +13,17 @@ use Rattle.blocks.specs.Layout.{block-size, longest-content, sum-at}
 use Rattle.blocks.specs.Block.{Region, two-bytes, block-kind, name-length, content-length, block-name, block-content}
 use Rattle.blocks.specs.Content.{is-hex, lower-case}
 use Rattle.blocks.specs.Entry.{Entry, damaged, failed, loose, unread, packed-record, entry-of, entries}
+use Rattle.blocks.specs.Fitness.{Flaw, flaw-or}
 use Rattle.blocks.specs.Snapshot.{Snapshot}
 use Rattle.blocks.specs.declared.block.Region as code
 use Rattle.blocks.specs.declared.block.EntryKind.{EntryKind}
 use Rattle.blocks.specs.declared.block.EntryKind.the-variants.{End, Damaged, Failed, Loose, Unread, Record, PeeledRecord}
 use Rattle.blocks.specs.declared.fitness.Sizes.{Sizes}
 use Rattle.blocks.specs.declared.fitness.Sizes.the-variants.{Right, NotWhole, TooMany}
+use Rattle.blocks.specs.declared.fitness.Reason.{Reason}
+use Rattle.blocks.specs.declared.fitness.Reason.the-variants as reason
+use Rattle.blocks.specs.declared.fitness.Verdict.{Verdict}
+use Rattle.blocks.specs.declared.fitness.Verdict.the-variants.{Fit, Unfit}
 
 -- "Object ids have 40 hexadecimal digits"
 abbrev pub id-width : ℕ
@@ -90,6 +95,11 @@ entry-in width r s i = first (drop i (entries width r s))
 abbrev pub taken-in : ℕ → Bytes → ℕ → Option Entry
 taken-in width s i = if ltb i (block-count s) then some (taken-entry width (block-at s i)) else none
 
+-- the name before block i, if there is one
+unfoldable pub name-before : Bytes → ℕ → Option Bytes
+name-before s zero = none
+name-before s (suc i) = some (name-within (block-at s i))
+
 -- ---- ids
 
 -- the id that s begins with, zeros following where s is shorter
@@ -116,3 +126,17 @@ abbrev pub sizes-check : Sizes → Check
 sizes-check Right = none
 sizes-check NotWhole = some 1
 sizes-check TooMany = some 2
+
+-- 6 "damaged", 7 "kind 3 or 5", 8 "name not above the one before"
+abbrev pub reason-number : Reason → ℕ
+reason-number reason.Damaged = 6
+reason-number reason.ErrorKind = 7
+reason-number reason.NotAbove = 8
+
+abbrev pub flaw-of : Verdict → Option Flaw
+flaw-of Fit = none
+flaw-of (Unfit why r i) = some (record { number = reason-number why; region = region-of r; block = i })
+
+-- the flaw of block i, by the check of it
+abbrev pub flaw-at : Check → Region → ℕ → Option Flaw
+flaw-at c r i = flaw-or c r i none
