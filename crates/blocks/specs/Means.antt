@@ -2,22 +2,30 @@
 use mathlib.Core.Path.{_≡_}
 use Prim.Native.Nat.{ℕ, zero, suc, _+_, _*_, _/_, _≤_}
 use mathlib.Core.List.{List, [], _∷_, _++_}
-use mathlib.Core.Bool.{Bool, true, false, _&&_}
+use mathlib.Core.Bool.{Bool, true, false, _&&_, not}
 use mathlib.Core.Option.{Option, none, some}
 use lib.Dec.{leb, ltb}
 use lib.ListN.{length, take, drop, replicate}
-use Rattle.names.specs.Bytes.{Bytes, if_then_else_, every}
+use Rattle.names.specs.Bytes.{Bytes, bytes, if_then_else_, starts-with, every}
 use Rattle.names.specs.Check.{Check}
-use Rattle.names.specs.Name.{longest}
+use Rattle.names.specs.Name.{longest, fits}
+use Rattle.names.specs.Means.{content}
 use Rattle.blocks.specs.Layout.{block-size, longest-content, sum-at}
 use Rattle.blocks.specs.Block.{Region, two-bytes, block-kind, name-length, content-length, block-name, block-content}
-use Rattle.blocks.specs.Content.{is-hex, lower-case}
+use Rattle.blocks.specs.Content.{Target, object, symbolic, Reading, reads, unreadable, is-hex, lower-case, begins-hex}
 use Rattle.blocks.specs.Entry.{Entry, damaged, failed, loose, unread, packed-record, entry-of, entries}
 use Rattle.blocks.specs.Fitness.{Flaw, flaw-or}
 use Rattle.blocks.specs.Snapshot.{Snapshot}
 use Rattle.blocks.specs.declared.block.Region as code
 use Rattle.blocks.specs.declared.block.EntryKind.{EntryKind}
 use Rattle.blocks.specs.declared.block.EntryKind.the-variants.{End, Damaged, Failed, Loose, Unread, Record, PeeledRecord}
+use Rattle.blocks.specs.declared.decode.State.{State}
+use Rattle.blocks.specs.declared.decode.State.the-variants.{Id, UnvalidatedPath, Neither}
+use Rattle.blocks.specs.declared.decode.Refusal.{Refusal}
+use Rattle.blocks.specs.declared.decode.Refusal.the-variants.{Unreadable, Incomplete, Unsupported}
+use Rattle.blocks.specs.declared.decode.TargetKind.{TargetKind}
+use Rattle.blocks.specs.declared.decode.TargetKind.the-variants.{Object, Symbolic, Refused}
+use Rattle.blocks.specs.declared.decode.Target as decoded
 use Rattle.blocks.specs.declared.fitness.Sizes.{Sizes}
 use Rattle.blocks.specs.declared.fitness.Sizes.the-variants.{Right, NotWhole, TooMany}
 use Rattle.blocks.specs.declared.fitness.Reason.{Reason}
@@ -108,6 +116,39 @@ id-in s = lower-case (take id-width (s ++ replicate id-width 0))
 
 abbrev pub begins-with-id : ℕ → Bytes → Bool
 begins-with-id width s = leb width (length s) && every is-hex (take width s)
+
+-- an id, and no further digit
+abbrev pub is-id : ℕ → Bytes → Bool
+is-id width s = begins-with-id width s && not (begins-hex (drop width s))
+
+-- ---- loose contents
+
+-- `parse`
+abbrev pub parsed : ℕ → Bytes → State
+parsed width s = if starts-with (bytes "ref: ") s then UnvalidatedPath else if is-id width s then Id else Neither
+
+-- 10 "content unreadable as a reference", 11 "target not complete, 12 apart", 12 "target `refs/heads/.invalid`"
+abbrev pub refusal-number : Refusal → ℕ
+refusal-number Unreadable = 10
+refusal-number Incomplete = 11
+refusal-number Unsupported = 12
+
+abbrev pub reading : TargetKind → Bytes → Bytes → Reading
+reading Object id name = reads (object id)
+reading Symbolic id name = reads (symbolic name)
+reading (Refused why) id name = unreadable (refusal-number why)
+
+abbrev pub reading-of : decoded.Target → Reading
+reading-of t = reading (t .kind) (t .id .digits) (content (t .name))
+
+-- a target that no name can hold is refused 11; no content of a block has one
+abbrev pub name-reading : Bytes → Reading
+name-reading t = if fits t then reads (symbolic t) else unreadable 11
+
+abbrev pub within-name : Reading → Reading
+within-name (reads (object id)) = reads (object id)
+within-name (reads (symbolic t)) = name-reading t
+within-name (unreadable k) = unreadable k
 
 -- ---- snapshots
 
