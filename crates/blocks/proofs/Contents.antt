@@ -1,12 +1,12 @@
 -- What a loose content says, by how it begins.
-use mathlib.Core.Path.{_≡_, refl, sym, _∙_}
-use mathlib.Core.Bool.{Bool, true, false, _&&_, not}
+use mathlib.Core.Path.{_≡_, refl, sym}
+use mathlib.Core.Bool.{Bool, true, false, not}
 use mathlib.Core.List.{[], _∷_}
 use mathlib.Core.Option.{none, some}
-use Prim.Native.Nat.{ℕ, suc, _+_, _≤_, _<_}
+use Prim.Native.Nat.{ℕ, suc, _≤_, _<_}
 use native.Mathlib.Omega.{arith}
 use borrow.Author.Tests.{leb-true, le-leb}
-use lib.Dec.{leb, eqb}
+use lib.Dec.{eqb}
 use lib.ListN.{length, take, drop, getD, drop-of-length-le, length-drop}
 use lib.Seq.{drop-cons}
 use Rattle.names.specs.Bytes.{Bytes, bytes, if_then_else_, same, starts-with, every, after}
@@ -14,8 +14,8 @@ use Rattle.names.specs.Name.{longest, fits}
 use Rattle.names.specs.WellFormed.{complete}
 use Rattle.names.proofs.Tests.{and-left, none≢some, if-case}
 use Rattle.blocks.specs.Layout.{longest-content}
-use Rattle.blocks.specs.Content.{Target, object, symbolic, Reading, reads, unreadable, is-hex, lower-case, ends-line, skip-spaces, line, begins-hex, read-target, read-id, read}
-use Rattle.blocks.specs.Means.{id-width, id-in, begins-with-id, is-id, parsed, name-reading, within-name}
+use Rattle.blocks.specs.Content.{object, symbolic, Reading, reads, unreadable, is-hex, lower-case, ends-line, skip-spaces, line, begins-hex, read-target, read-id, read}
+use Rattle.blocks.specs.Means.{id-width, id-in, is-id, parsed, name-reading, within-name}
 use Rattle.blocks.specs.declared.decode.State.{State}
 use Rattle.blocks.specs.declared.decode.State.the-variants.{Id, UnvalidatedPath, Neither}
 use Rattle.blocks.proofs.Ids.{id-whole}

@@ -1,20 +1,19 @@
 -- Fitness: the flaw of one block, and one step of the scan of a region.
-use mathlib.Core.Path.{_≡_, refl, sym, ap, _∙_}
+use mathlib.Core.Path.{_≡_, refl, sym, _∙_}
 use mathlib.Core.Bool.{Bool, true, false, _&&_, not, false≢true}
 use mathlib.Core.Logic.{_⊎_, ⊎-elim, inl, inr}
-use mathlib.Core.List.{List, [], _∷_}
 use mathlib.Core.Option.{Option, none, some, Option·map}
 use Prim.Native.Nat.{ℕ, zero, suc, _+_, _-_, _≤_, _<_}
 use native.Mathlib.Numerals.{add-one}
 use native.Mathlib.Omega.{arith}
-use borrow.Author.Tests.{leb-true, ne-eqb, eqb-false}
+use borrow.Author.Tests.{leb-true, eqb-false}
 use lib.Dec.{leb, eqb}
 use lib.ListN.{length, drop, drop-of-length-le}
 use Rattle.names.specs.Bytes.{Bytes, order}
 use Rattle.names.specs.Check.{Check}
 use Rattle.names.proofs.Tests.{and-left, and-right, none≢some}
 use Rattle.blocks.specs.Block.{Region, block-kind, layout-right, kind-suits, shape-right, sound}
-use Rattle.blocks.specs.Entry.{Entry, damaged, failed, name-of, entry-of, entry, first-blocks, blocks, entries}
+use Rattle.blocks.specs.Entry.{name-of, entry-of, entry, first-blocks, blocks, entries}
 use Rattle.blocks.specs.Fitness.{Flaw, eight-unless, above, flaw, flaw-or, flaw-from, first-flaw}
 use Rattle.blocks.specs.Snapshot.{or-empty, is-there, or-flaw, store, store-flaw}
 use Rattle.blocks.specs.Means.{block-at, block-count, name-within, content-within, name-before, if-there, snapshot-of, flaw-at}

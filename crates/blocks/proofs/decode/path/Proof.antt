@@ -1,4 +1,4 @@
-use Rattle.blocks.proofs.Lines.{rest-is}
+use Rattle.blocks.proofs.Parts.{rest-is}
 use Rattle.blocks.proofs.Contents.{path-short}
 use native.Mathlib.Omega.{arith}
 use borrow.Author.Needs.{needs}
