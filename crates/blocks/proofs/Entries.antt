@@ -1,17 +1,17 @@
 -- The entry of a block of a region.
-use mathlib.Core.Path.{_≡_, refl, sym, ap, _∙_}
-use mathlib.Core.Bool.{Bool, true, false, not}
+use mathlib.Core.Path.{_≡_}
+use mathlib.Core.Bool.{true, not}
 use mathlib.Core.List.{_∷_}
-use mathlib.Core.Option.{Option, none, some}
-use Prim.Native.Nat.{ℕ, suc, _+_, _≤_, _<_}
+use mathlib.Core.Option.{none, some}
+use Prim.Native.Nat.{ℕ, _+_, _≤_, _<_}
 use native.Mathlib.Numerals.{add-one}
 use native.Mathlib.Omega.{arith}
 use borrow.Author.Tests.{not-true}
-use lib.ListN.{length, drop, getD, drop-of-length-le}
+use lib.ListN.{length, drop, drop-of-length-le}
 use lib.Seq.{drop-cons}
 use Rattle.names.specs.Bytes.{Bytes}
 use Rattle.blocks.specs.Block.{Region, block-name, block-content, sound}
-use Rattle.blocks.specs.Entry.{Entry, damaged, entry, entries}
+use Rattle.blocks.specs.Entry.{damaged, entry, entries}
 use Rattle.blocks.specs.Means.{block-at, block-count, name-within, content-within, taken-entry, entry-in}
 use Rattle.blocks.proofs.Walks.{length-entries, entry-at}
 use Rattle.blocks.proofs.Parts.{name-held, content-held}

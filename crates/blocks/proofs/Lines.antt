@@ -1,21 +1,15 @@
 -- Spaces and lines, byte by byte.
-use mathlib.Core.Path.{_≡_, refl, ap}
+use mathlib.Core.Path.{_≡_}
 use mathlib.Core.Bool.{true, false}
 use mathlib.Core.Logic.{_⊎_, ⊎-elim, inl, inr}
-use mathlib.Core.List.{[], _∷_, _++_, append-nil}
-use Prim.Native.Nat.{ℕ, suc, _+_, _-_, _≤_, _<_}
+use mathlib.Core.List.{_++_, append-nil}
+use Prim.Native.Nat.{ℕ, _+_, _≤_, _<_}
 use native.Mathlib.Numerals.{add-one}
-use native.Mathlib.Omega.{arith}
 use borrow.Author.Tests.{eq-eqb, ne-eqb}
-use lib.Dec.{eqb}
-use lib.ListN.{length, take, drop, getD, drop-of-length-le, length-drop}
+use lib.ListN.{length, take, drop, getD, drop-of-length-le}
 use lib.Seq.{drop-cons, take-suc, take-all, append-snoc}
 use Rattle.names.specs.Bytes.{Bytes}
 use Rattle.blocks.specs.Content.{ends-line, skip-spaces, line}
-
--- a part up to the end
-pub rest-is : (s : Bytes) (i : ℕ) → take (length s - i) (drop i s) ≡ drop i s
-rest-is s i = take-all (length s - i) (drop i s) (simp length-drop (omega arith))
 
 module _ (s : Bytes) (i : ℕ) where
   pub spaces-more : i < length s → getD s i 0 ≡ 32 → skip-spaces (drop i s) ≡ skip-spaces (drop (i + 1) s)

@@ -1,15 +1,16 @@
 -- Blocks as parts of a region, and their names and contents as parts of a block.
 use mathlib.Core.Path.{_≡_}
-use Prim.Native.Nat.{ℕ, _+_, _*_, _/_, _-_, _≤_, _<_}
+use Prim.Native.Nat.{ℕ, _+_, _-_, _≤_, _<_}
 use native.Mathlib.Nat.{add-sub-cancel-left}
 use native.Mathlib.Omega.{arith}
 use mathlib.Core.List.{[]}
 use mathlib.Core.Option.{some}
 use borrow.Author.Tests.{le-leb, lt-leb, ne-eqb}
 use lib.ListN.{length, take, drop, length-take, length-drop}
+use lib.Seq.{take-all}
 use Rattle.names.specs.Bytes.{Bytes}
 use Rattle.names.specs.Name.{longest}
-use Rattle.blocks.specs.Layout.{block-size, content-at, longest-content}
+use Rattle.blocks.specs.Layout.{block-size, longest-content}
 use Rattle.blocks.specs.Block.{between, name-length, content-length, block-name, block-content}
 use Rattle.blocks.specs.Entry.{failed, loose, unread, packed-record, peeled-in, entry-of}
 use Rattle.blocks.specs.Means.{block-at, block-count, name-within, content-within}
@@ -17,6 +18,10 @@ use Rattle.blocks.specs.Means.{block-at, block-count, name-within, conte
 -- a part that begins at a and has n bytes
 pub part-is : (s : Bytes) (a n : ℕ) → between s a (a + n) ≡ take n (drop a s)
 part-is s a n = rw add-sub-cancel-left
+
+-- a part up to the end
+pub rest-is : (s : Bytes) (i : ℕ) → take (length s - i) (drop i s) ≡ drop i s
+rest-is s i = take-all (length s - i) (drop i s) (simp length-drop (omega arith))
 
 pub length-block : (s : Bytes) (k : ℕ) → k < block-count s → length (block-at s k) ≡ block-size
 length-block s k h = simp (length-take, length-drop) (omega arith)

@@ -1,24 +1,37 @@
 -- What the code's types mean, and parts that its answers speak of.
 use mathlib.Core.Path.{_≡_}
-use Prim.Native.Nat.{ℕ, _+_, _*_, _/_, _≤_}
+use Prim.Native.Nat.{ℕ, zero, suc, _+_, _*_, _/_, _≤_}
 use mathlib.Core.List.{List, [], _∷_, _++_}
-use mathlib.Core.Bool.{Bool, true, false, _&&_}
+use mathlib.Core.Bool.{Bool, true, false, _&&_, not}
 use mathlib.Core.Option.{Option, none, some}
 use lib.Dec.{leb, ltb}
 use lib.ListN.{length, take, drop, replicate}
-use Rattle.names.specs.Bytes.{Bytes, if_then_else_, every}
+use Rattle.names.specs.Bytes.{Bytes, bytes, if_then_else_, starts-with, every}
 use Rattle.names.specs.Check.{Check}
-use Rattle.names.specs.Name.{longest}
+use Rattle.names.specs.Name.{longest, fits}
+use Rattle.names.specs.Means.{content}
 use Rattle.blocks.specs.Layout.{block-size, longest-content, sum-at}
 use Rattle.blocks.specs.Block.{Region, two-bytes, block-kind, name-length, content-length, block-name, block-content}
-use Rattle.blocks.specs.Content.{is-hex, lower-case}
+use Rattle.blocks.specs.Content.{Target, object, symbolic, Reading, reads, unreadable, is-hex, lower-case, begins-hex}
 use Rattle.blocks.specs.Entry.{Entry, damaged, failed, loose, unread, packed-record, entry-of, entries}
+use Rattle.blocks.specs.Fitness.{Flaw, flaw-or}
 use Rattle.blocks.specs.Snapshot.{Snapshot}
 use Rattle.blocks.specs.declared.block.Region as code
 use Rattle.blocks.specs.declared.block.EntryKind.{EntryKind}
 use Rattle.blocks.specs.declared.block.EntryKind.the-variants.{End, Damaged, Failed, Loose, Unread, Record, PeeledRecord}
+use Rattle.blocks.specs.declared.decode.State.{State}
+use Rattle.blocks.specs.declared.decode.State.the-variants.{Id, UnvalidatedPath, Neither}
+use Rattle.blocks.specs.declared.decode.Refusal.{Refusal}
+use Rattle.blocks.specs.declared.decode.Refusal.the-variants.{Unreadable, Incomplete, Unsupported}
+use Rattle.blocks.specs.declared.decode.TargetKind.{TargetKind}
+use Rattle.blocks.specs.declared.decode.TargetKind.the-variants.{Object, Symbolic, Refused}
+use Rattle.blocks.specs.declared.decode.Target as decoded
 use Rattle.blocks.specs.declared.fitness.Sizes.{Sizes}
 use Rattle.blocks.specs.declared.fitness.Sizes.the-variants.{Right, NotWhole, TooMany}
+use Rattle.blocks.specs.declared.fitness.Reason.{Reason}
+use Rattle.blocks.specs.declared.fitness.Reason.the-variants as reason
+use Rattle.blocks.specs.declared.fitness.Verdict.{Verdict}
+use Rattle.blocks.specs.declared.fitness.Verdict.the-variants.{Fit, Unfit}
 
 -- "Object ids have 40 hexadecimal digits"
 abbrev pub id-width : ℕ
@@ -90,6 +103,11 @@ entry-in width r s i = first (drop i (entries width r s))
 abbrev pub taken-in : ℕ → Bytes → ℕ → Option Entry
 taken-in width s i = if ltb i (block-count s) then some (taken-entry width (block-at s i)) else none
 
+-- the name before block i, if there is one
+unfoldable pub name-before : Bytes → ℕ → Option Bytes
+name-before s zero = none
+name-before s (suc i) = some (name-within (block-at s i))
+
 -- ---- ids
 
 -- the id that s begins with, zeros following where s is shorter
@@ -98,6 +116,39 @@ id-in s = lower-case (take id-width (s ++ replicate id-width 0))
 
 abbrev pub begins-with-id : ℕ → Bytes → Bool
 begins-with-id width s = leb width (length s) && every is-hex (take width s)
+
+-- an id, and no further digit
+abbrev pub is-id : ℕ → Bytes → Bool
+is-id width s = begins-with-id width s && not (begins-hex (drop width s))
+
+-- ---- loose contents
+
+-- `parse`
+abbrev pub parsed : ℕ → Bytes → State
+parsed width s = if starts-with (bytes "ref: ") s then UnvalidatedPath else if is-id width s then Id else Neither
+
+-- 10 "content unreadable as a reference", 11 "target not complete, 12 apart", 12 "target `refs/heads/.invalid`"
+abbrev pub refusal-number : Refusal → ℕ
+refusal-number Unreadable = 10
+refusal-number Incomplete = 11
+refusal-number Unsupported = 12
+
+abbrev pub reading : TargetKind → Bytes → Bytes → Reading
+reading Object id name = reads (object id)
+reading Symbolic id name = reads (symbolic name)
+reading (Refused why) id name = unreadable (refusal-number why)
+
+abbrev pub reading-of : decoded.Target → Reading
+reading-of t = reading (t .kind) (t .id .digits) (content (t .name))
+
+-- a target that no name can hold is refused 11; no content of a block has one
+abbrev pub name-reading : Bytes → Reading
+name-reading t = if fits t then reads (symbolic t) else unreadable 11
+
+abbrev pub within-name : Reading → Reading
+within-name (reads (object id)) = reads (object id)
+within-name (reads (symbolic t)) = name-reading t
+within-name (unreadable k) = unreadable k
 
 -- ---- snapshots
 
@@ -116,3 +167,17 @@ abbrev pub sizes-check : Sizes → Check
 sizes-check Right = none
 sizes-check NotWhole = some 1
 sizes-check TooMany = some 2
+
+-- 6 "damaged", 7 "kind 3 or 5", 8 "name not above the one before"
+abbrev pub reason-number : Reason → ℕ
+reason-number reason.Damaged = 6
+reason-number reason.ErrorKind = 7
+reason-number reason.NotAbove = 8
+
+abbrev pub flaw-of : Verdict → Option Flaw
+flaw-of Fit = none
+flaw-of (Unfit why r i) = some (record { number = reason-number why; region = region-of r; block = i })
+
+-- the flaw of block i, by the check of it
+abbrev pub flaw-at : Check → Region → ℕ → Option Flaw
+flaw-at c r i = flaw-or c r i none

@@ -1,10 +1,22 @@
 // Sizes and fitness for search of a snapshot's regions.
 ghost use mathlib.Core.Path.{_≡_};
-ghost use Rattle.blocks.specs.Fitness.{whole, not-too-many};
-ghost use Rattle.blocks.specs.Snapshot.{or-empty, size-check};
-ghost use Rattle.blocks.specs.Means.{if-there, snapshot-of, sizes-check, three};
+ghost use mathlib.Core.Bool.{not};
+ghost use Prim.Native.Nat.{_<_};
+ghost use Rattle.blocks.specs.Entry.{entry, entries};
+ghost use Rattle.blocks.specs.Fitness.{whole, not-too-many, above, flaw, first-flaw};
+ghost use Rattle.blocks.specs.Snapshot.{or-empty, is-there, size-check, store, store-flaw};
+ghost use Rattle.blocks.specs.Means.{id-width, region-of, block-count, block-at, name-within, name-before, if-there, snapshot-of, sizes-check, three, flaw-of, flaw-at};
 use crate::block::BLOCK_SIZE;
+use crate::block::KIND_AT;
 use crate::block::MOST_BLOCKS;
+use crate::block::PACKED_ERROR;
+use crate::block::Region;
+use crate::block::WALK_ERROR;
+use crate::block::block_at;
+use crate::block::is_damaged;
+use crate::block::name_part;
+use names::bytes::Order;
+use names::bytes::compare;
 
 // Right, or refused 1 or 2.
 pub enum Sizes {
@@ -68,4 +80,115 @@ pub fn size_check(worktree: &[u8], common: &[u8], has_common: bool, packed: &[u8
         return Sizes::TooMany;
     }
     Sizes::Right
+}
+
+// Why a block is unfit: 6, 7 and 8.
+pub enum Reason {
+    Damaged,
+    ErrorKind,
+    NotAbove,
+}
+
+// Whether regions are fit for search, or the first block that is not.
+pub enum Verdict {
+    Fit,
+    Unfit {
+        reason: Reason,
+        region: Region,
+        block: usize,
+    },
+}
+
+pub fn is_fit(v: Verdict) -> bool
+    ensures { λ r. ⌜ r ≡ not (is-there (flaw-of v)) ⌝ }
+{
+    match v {
+        Verdict::Fit => true,
+        Verdict::Unfit {
+            reason: _,
+            region: _,
+            block: _,
+        } => false,
+    }
+}
+
+// Whether the name of block k is above the one before.
+fn order_fitness(s: &[u8], region: Region, k: usize) -> Verdict
+    requires { ⌜ k < block-count (now s) ⌝ }
+    ensures { λ v. ⌜ flaw-of v ≡ flaw-at (above (name-before (now (s .entry)) k) (name-within (block-at (now (s .entry)) k))) (region-of region) k ⌝ }
+{
+    if k == 0 {
+        return Verdict::Fit;
+    }
+    let before = name_part(block_at(s, k - 1));
+    let name = name_part(block_at(s, k));
+    let o = compare(before, name);
+    match o {
+        Order::Less => Verdict::Fit,
+        Order::Equal => Verdict::Unfit {
+            reason: Reason::NotAbove,
+            region,
+            block: k,
+        },
+        Order::Greater => Verdict::Unfit {
+            reason: Reason::NotAbove,
+            region,
+            block: k,
+        },
+    }
+}
+
+// What is wrong with block k, if anything is.
+fn block_fitness(s: &[u8], region: Region, k: usize) -> Verdict
+    requires { ⌜ k < block-count (now s) ⌝ }
+    ensures { λ v. ⌜ flaw-of v ≡ flaw-at (flaw (name-before (now (s .entry)) k) (entry id-width (region-of region) (block-at (now (s .entry)) k))) (region-of region) k ⌝ }
+{
+    let b = block_at(s, k);
+    if is_damaged(b, region) {
+        return Verdict::Unfit {
+            reason: Reason::Damaged,
+            region,
+            block: k,
+        };
+    }
+    let kind = b[KIND_AT];
+    match kind {
+        WALK_ERROR | PACKED_ERROR => Verdict::Unfit {
+            reason: Reason::ErrorKind,
+            region,
+            block: k,
+        },
+        _ => order_fitness(s, region, k),
+    }
+}
+
+// Whether a region is fit for search, or its first block that is not.
+pub fn region_fitness(s: &[u8], region: Region) -> Verdict
+    ensures { λ v. ⌜ flaw-of v ≡ first-flaw (region-of region) (entries id-width (region-of region) (now (s .entry))) ⌝ }
+{
+    let n = s.len() / BLOCK_SIZE;
+    let mut k: usize = 0;
+    while k < n {
+        let v = block_fitness(s, region, k);
+        if !is_fit(v) {
+            return v;
+        }
+        k += 1;
+    }
+    Verdict::Fit
+}
+
+// Rows 6 to 8: the first block counts, regions in the order worktree, common, packed.
+pub fn fitness(worktree: &[u8], common: &[u8], has_common: bool, packed: &[u8]) -> Verdict
+    ensures { λ v. ⌜ flaw-of v ≡ store-flaw (store id-width (snapshot-of (now (worktree .entry)) (if-there «has_common» (now (common .entry))) (now (packed .entry)))) ⌝ }
+{
+    let w = region_fitness(worktree, Region::Worktree);
+    if !is_fit(w) {
+        return w;
+    }
+    let c = region_fitness(or_empty(common, has_common), Region::Common);
+    if !is_fit(c) {
+        return c;
+    }
+    region_fitness(packed, Region::Packed)
 }

@@ -1,7 +1,7 @@
 // Hexadecimal digits and ids (parse.rs).
 ghost use mathlib.Core.Path.{_≡_};
 ghost use Rattle.names.specs.Bytes.{every};
-ghost use lib.ListN.{getD};
+ghost use lib.ListN.{drop, getD};
 ghost use Rattle.blocks.specs.Content.{is-hex, lower};
 ghost use Rattle.blocks.specs.Means.{id-width, id-in, begins-with-id};
 
@@ -73,4 +73,14 @@ pub fn hex_hash(s: &[u8]) -> bool
         return false;
     }
     all_hex(&s[0..ID_WIDTH])
+}
+
+// The id that stands behind the first.
+pub fn second_id_of(s: &[u8]) -> Id
+    ensures { λ r. ⌜ r .digits ≡ id-in (drop id-width (now (s .entry))) ⌝ }
+{
+    if s.len() < ID_WIDTH {
+        return id_of(&s[0..0]);
+    }
+    id_of(&s[ID_WIDTH..])
 }

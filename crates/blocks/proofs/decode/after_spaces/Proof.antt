@@ -1,4 +1,5 @@
-use Rattle.blocks.proofs.Lines.{rest-is, spaces-more, spaces-done, spaces-end}
+use Rattle.blocks.proofs.Parts.{rest-is}
+use Rattle.blocks.proofs.Lines.{spaces-more, spaces-done, spaces-end}
 use mathlib.Core.Path.{_≡_, sym, _∙_}
 use Prim.Native.Nat.{_≤_, _-_}
 use lib.ListN.{length, drop}

@@ -1,0 +1,42 @@
+use mathlib.Core.Path.{sym, _∙_}
+use borrow.Author.Tests.{not-false}
+use Rattle.blocks.specs.Block.{block-kind}
+use Rattle.blocks.proofs.Flaws.{flaw-damaged, flaw-error, flaw-order}
+use borrow.Author.Needs.{needs}
+use Rattle.blocks.proofs.fitness.block_fitness.Statement.{statement}
+use Rattle.blocks.proofs.fitness.block_fitness.Tie as tie
+
+block-at-requires : tie.Need-block-at-requires
+block-at-requires c κs = search needs
+
+is-damaged-requires : tie.Need-is-damaged-requires
+is-damaged-requires c κs = search needs
+
+returns : tie.Need-returns
+returns c = rw (← c .before .before .block-at .ensures .0, flaw-damaged 40 _ _ _ (sym (c .before .is-damaged .ensures) ∙ c .if1 .taken))
+
+shared-slice-read-kind : tie.Need-shared-slice-read-kind
+shared-slice-read-kind c = search needs
+
+order-fitness-requires : tie.Need-order-fitness-requires
+order-fitness-requires c κs = search needs
+
+returns-2 : tie.Need-returns-2
+unfolding block-kind
+returns-2 c = rw (← c .before .before .before .before .block-at .ensures .0, flaw-error 40 _ _ _ (not-false _ (sym (c .before .before .before .is-damaged .ensures) ∙ c .before .before .if1 .left)) (c .match .keys1))
+
+returns-3 : tie.Need-returns-3
+unfolding block-kind
+returns-3 c = rw (← c .before .before .before .before .before .block-at .ensures .0, flaw-order 40 _ _ _ (not-false _ (sym (c .before .before .before .before .is-damaged .ensures) ∙ c .before .before .before .if1 .left)) (c .before .match .rest .1), c .before .before .before .before .before .block-at .ensures .0) (c .order-fitness .ensures)
+
+pub block-fitness-spec : {M : Type 1} → statement M
+block-fitness-spec =
+    tie.close
+    (tie.spec
+    block-at-requires
+    is-damaged-requires
+    returns
+    shared-slice-read-kind
+    order-fitness-requires
+    returns-2
+    returns-3)
