@@ -6,14 +6,15 @@ use native.Mathlib.Omega.{arith}
 use mathlib.Core.List.{List, [], _∷_}
 use mathlib.Core.Bool.{Bool, true, false}
 use mathlib.Core.Option.{Option, none, some, Option·map}
-use lib.Dec.{eqb}
-use lib.ListN.{length, drop, getD, drop-of-length-le}
+use lib.Dec.{eqb, lit≤}
+use lib.ListN.{length, drop, getD, drop-of-length-le, length-drop}
 use lib.Seq.{drop-cons}
 use borrow.Author.Tests.{eq-eqb, ne-eqb}
 use Rattle.names.specs.Bytes.{Bytes, bytes, slash, if_then_else_, starts-with, after}
 use Rattle.names.specs.Name.{is-pseudo}
-use Rattle.names.specs.Category.{Tag, LocalBranch, RemoteBranch, Note, Bisect, WorktreePrivate, Rewritten, PseudoRef, MainPseudoRef, MainRef, Class, prefix, classify-below, first-slash, classify-linked, without-prefix, without-refs, classify}
-use Rattle.names.proofs.Tests.{none≢some}
+use Rattle.names.specs.Category.{Category, Tag, LocalBranch, RemoteBranch, Note, Bisect, WorktreePrivate, Rewritten, PseudoRef, MainPseudoRef, MainRef, Class, prefix, classify-below, first-slash, classify-linked, without-prefix, without-refs, classify, off-in}
+use Rattle.names.proofs.Tests.{if-case, none≢some}
+use Rattle.names.proofs.Prefix.{starts-length}
 
 -- ---- the tests of a category, in their order
 
@@ -100,3 +101,37 @@ slash-in (b ∷ s) i e = go (eqb b slash) e (first-slash s) refl (slash-in s)
     go true h o f ih = let z : 0 ≡ i = cc in omega arith
     go false h none f ih = none≢some (rw f at h)
     go false h (some j) f ih = let l = ih j f in let z : some (suc j) ≡ some i = rw f at h in let y : suc j ≡ i = cc in omega arith
+
+-- ---- what is taken off is there
+
+off-below : (s : Bytes) (ref pseudo : Category) (off : ℕ) (rest : Bytes) → off ≤ length s → off-in (classify-below ref pseudo off rest) ≤ length s
+unfolding classify-below
+off-below s ref pseudo off rest h =
+    if-case (λ (o : Option Class). off-in o ≤ length s) (starts-with (bytes "refs/") rest) (λ _. h)
+    (λ _. if-case (λ (o : Option Class). off-in o ≤ length s) (is-pseudo rest) (λ _. h) (λ _. omega arith))
+
+off-linked : (s : Bytes) → 10 ≤ length s → (o : Option ℕ) → first-slash (drop 10 s) ≡ o → off-in (classify-linked (drop 10 s) o) ≤ length s
+unfolding classify-linked
+off-linked s h none e = omega arith
+off-linked s h (some i) e = off-below s _ _ _ _ (omega (arith, rw length-drop at (slash-in (drop 10 s) i e)))
+
+-- a test that is met by a beginning
+off-of : (s p : Bytes) (a b : Option Class) → off-in a ≤ length p → off-in b ≤ length s → off-in (if starts-with p s then a else b) ≤ length s
+off-of s p a b h k = if-case (λ (o : Option Class). off-in o ≤ length s) (starts-with p s) (λ t. omega (arith, starts-length p s t)) (λ _. k)
+
+pub off-within : (s : Bytes) → off-in (classify s) ≤ length s
+unfolding classify
+off-within s =
+    off-of s (prefix Tag) _ _ (lit≤ tt)
+    (off-of s (prefix LocalBranch) _ _ (lit≤ tt)
+    (off-of s (prefix RemoteBranch) _ _ (lit≤ tt)
+    (off-of s (prefix Note) _ _ (lit≤ tt)
+    (off-of s (prefix Bisect) _ _ (lit≤ tt)
+    (off-of s (prefix WorktreePrivate) _ _ (lit≤ tt)
+    (off-of s (prefix Rewritten) _ _ (lit≤ tt)
+    (if-case P (is-pseudo s) (λ _. omega arith) (λ _.
+    if-case P (starts-with (bytes "main-worktree/") s) (λ t. off-below s _ _ _ _ (starts-length (bytes "main-worktree/") s t)) (λ _.
+    if-case P (starts-with (bytes "worktrees/") s) (λ t. off-linked s (starts-length (bytes "worktrees/") s t) _ refl) (λ _. omega arith))))))))))
+  where
+    P : Option Class → Type 0
+    P o = off-in o ≤ length s

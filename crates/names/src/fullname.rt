@@ -1,5 +1,6 @@
 // Full names and their categories (fullname.rs, name.rs).
 use crate::bytes::starts_with;
+use crate::name::LONGEST;
 use crate::name::Made;
 use crate::name::Name;
 use crate::name::Refusal;
@@ -11,6 +12,7 @@ use crate::name::join;
 use crate::name::lend;
 use crate::name::pushed;
 use crate::name::size;
+use crate::validate::complete;
 ghost use mathlib.Core.Path.{_≡_};
 ghost use mathlib.Core.List.{_++_};
 ghost use mathlib.Core.Option.{some};
@@ -147,4 +149,185 @@ pub fn category_and_short_name(s: &[u8]) -> Class
         return classify_linked(&s[10..]);
     }
     Class::Unclassified
+}
+
+// Is the category private to its worktree? The worktree's name plays no part.
+pub fn is_worktree_private(c: Category) -> bool
+    ensures { λ r. ⌜ ((w : ℕ → Bytes) → r ≡ private-category (some (category-with w c))) ⌝ }
+{
+    match c {
+        Category::Tag => false,
+        Category::LocalBranch => false,
+        Category::RemoteBranch => false,
+        Category::Note => false,
+        Category::PseudoRef => true,
+        Category::MainPseudoRef => true,
+        Category::MainRef => false,
+        Category::LinkedPseudoRef { name_len: _ } => true,
+        Category::LinkedRef { name_len: _ } => false,
+        Category::Bisect => true,
+        Category::Rewritten => true,
+        Category::WorktreePrivate => true,
+    }
+}
+
+// Is the name private to its worktree?
+pub fn is_private(s: &[u8]) -> bool
+    ensures { λ r. ⌜ r ≡ is-private (now (s .entry)) ⌝ }
+{
+    let k = category_and_short_name(s);
+    match k {
+        Class::As { category, off: _ } => is_worktree_private(category),
+        Class::Unclassified => false,
+    }
+}
+
+// The name without what its category takes off.
+pub fn short_name(s: &[u8]) -> &[u8]
+    ensures { λ r. ⌜ now r ≡ short-name (now (s .entry)) ⌝ }
+{
+    let k = category_and_short_name(s);
+    match k {
+        Class::As { category: _, off } => &s[off..],
+        Class::Unclassified => s,
+    }
+}
+
+// A full name: refused 3 over 250 bytes, then 4 if it is not complete.
+pub fn full_name(s: &[u8]) -> CheckedFull
+    ensures { λ r. ⌜ checked-full r ≡ full-checked (now (s .entry)) ⌝ }
+{
+    let m = from_bytes(s);
+    let ok = m.ok;
+    let n = m.name;
+    let name = FullName(n);
+    if !ok {
+        let verdict = Verdict::Refused(Refusal::TooLong);
+        return CheckedFull { verdict, name };
+    }
+    if !complete(s) {
+        let verdict = Verdict::Refused(Refusal::Malformed);
+        return CheckedFull { verdict, name };
+    }
+    CheckedFull {
+        verdict: Verdict::Accepted,
+        name,
+    }
+}
+
+// s without the word, where that stands in front.
+fn without<'a>(s: &'a [u8], word: &[u8]) -> &'a [u8]
+    ensures { λ r. ⌜ now r ≡ strip (now (word .entry)) (now (s .entry)) ⌝ }
+{
+    if !starts_with(s, word) {
+        return s;
+    }
+    let k = word.len();
+    &s[k..]
+}
+
+// p behind the prefix, unless it begins with it already.
+fn prefixed(front: &[u8], p: &[u8]) -> Made
+    ensures { λ r. ⌜ made-name r ≡ if-fits (behind (now (front .entry)) (now (p .entry))) ⌝ }
+{
+    if starts_with(p, front) {
+        return from_bytes(p);
+    }
+    let m = from_bytes(front);
+    let ok = m.ok;
+    if !ok {
+        return m;
+    }
+    let n = m.name;
+    join(n, p)
+}
+
+// The prefix of a linked worktree's names.
+fn worktree_prefix(worktree: &[u8]) -> Made
+    ensures { λ r. ⌜ made-name r ≡ if-fits (bytes "worktrees/" ++ now (worktree .entry) ++ bytes "/") ⌝ }
+{
+    let e = empty();
+    let n = pushed(e, b"worktrees/");
+    let m = join(n, worktree);
+    let ok = m.ok;
+    if !ok {
+        return m;
+    }
+    let k = m.name;
+    join(k, b"/")
+}
+
+// p behind the prefix of a linked worktree, unless it begins with it already.
+fn prefixed_linked(worktree: &[u8], p: &[u8]) -> Made
+    ensures { λ r. ⌜ made-name r ≡ if-fits (behind (bytes "worktrees/" ++ now (worktree .entry) ++ bytes "/") (now (p .entry))) ⌝ }
+{
+    let m = worktree_prefix(worktree);
+    let ok = m.ok;
+    if !ok {
+        return m;
+    }
+    let n = m.name;
+    let b = n.bytes;
+    let len = n.len;
+    prefixed(lend(&b, len), p)
+}
+
+// The full name of a short one, where it fits.
+fn full_of(category: Category, worktree: &[u8], short: &[u8]) -> Made
+    ensures { λ r. ⌜ made-name r ≡ if-fits (full-of (category-with (λ k. now (worktree .entry)) category) (now (short .entry))) ⌝ }
+{
+    match category {
+        Category::Tag => prefixed(b"refs/tags/", short),
+        Category::LocalBranch => prefixed(b"refs/heads/", short),
+        Category::RemoteBranch => prefixed(b"refs/remotes/", short),
+        Category::Note => prefixed(b"refs/notes/", without(short, b"notes/")),
+        Category::PseudoRef => from_bytes(short),
+        Category::MainPseudoRef => prefixed(b"main-worktree/", short),
+        Category::MainRef => prefixed(b"main-worktree/refs/", without(short, b"refs/")),
+        Category::LinkedPseudoRef { name_len: _ } => prefixed_linked(worktree, short),
+        Category::LinkedRef { name_len: _ } => prefixed_linked(worktree, short),
+        Category::Bisect => prefixed(b"refs/bisect/", without(short, b"bisect/")),
+        Category::Rewritten => prefixed(b"refs/rewritten/", without(short, b"rewritten/")),
+        Category::WorktreePrivate => prefixed(b"refs/worktree/", without(short, b"worktree/")),
+    }
+}
+
+// The full name of a short one: refused 3 where either is over 250 bytes, then 4 if it is not complete. The linked
+// categories take the worktree's name from `worktree`, and the others ignore it.
+pub fn to_full_name(category: Category, worktree: &[u8], short: &[u8]) -> CheckedFull
+    ensures { λ r. ⌜ checked-full r ≡ to-full-name (category-with (λ k. now (worktree .entry)) category) (now (short .entry)) ⌝ }
+{
+    let m = full_of(category, worktree, short);
+    let ok = m.ok;
+    let n = m.name;
+    let name = FullName(n);
+    if short.len() > LONGEST {
+        let verdict = Verdict::Refused(Refusal::TooLong);
+        return CheckedFull { verdict, name };
+    }
+    if !ok {
+        let verdict = Verdict::Refused(Refusal::TooLong);
+        return CheckedFull { verdict, name };
+    }
+    let b = n.bytes;
+    let len = n.len;
+    if !complete(lend(&b, len)) {
+        let verdict = Verdict::Refused(Refusal::Malformed);
+        return CheckedFull { verdict, name };
+    }
+    CheckedFull {
+        verdict: Verdict::Accepted,
+        name,
+    }
+}
+
+// The name without e, where that stands in front.
+pub fn strip_namespace(n: Name, e: &[u8]) -> Name
+    ensures { λ r. ⌜ content r ≡ strip (now (e .entry)) (content n) ⌝ }
+{
+    let k = size(n);
+    let b = n.bytes;
+    let rest = without(lend(&b, k), e);
+    let none = empty();
+    pushed(none, rest)
 }

@@ -79,8 +79,8 @@ equal-requires c κs = search needs
 returns-9 : tie.Need-returns-9
 unfolding well-formed
 returns-9 c =
-    rw
-    (same-nothing,
+    rw (
+      same-nothing,
       ne-eqb _ _ (c .before .before .before .before .before .before .before .before .before .before .before .before .before .before .before .before .before .before .before .if1 .left),
       ← c .before .before .before .before .before .before .before .before .before .before .before .before .before .before .before .before .before .before .no-dot-begins .ensures,
       not-false (c .before .before .before .before .before .before .before .before .before .before .before .before .before .before .before .before .before .before .no-dot-begins .result) (c .before .before .before .before .before .before .before .before .before .before .before .before .before .before .before .before .before .if2 .left),
@@ -96,7 +96,8 @@ returns-9 c =
       c .before .before .before .before .before .if7 .left,
       ← c .before .before .before .contains2 .ensures,
       c .before .before .if8 .left,
-      ← c .equal .ensures)
+      ← c .equal .ensures,
+    )
 
 pub well-formed-spec : {M : Type 1} → statement M
 well-formed-spec =
