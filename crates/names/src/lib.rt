@@ -1,4 +1,5 @@
 // Names of references. The definitions are in specs/, their laws in proofs/.
 pub mod bytes;
+pub mod fullname;
 pub mod name;
 pub mod validate;
