@@ -26,7 +26,7 @@ use Rattle.blocks.proofs.Clauses.{lengths-content, sound-lengths, shape
 use Rattle.blocks.proofs.Entries.{entries-at, entry-there, entry-past, entry-damaged, entry-sound, sound-content}
 
 -- an entry that is not damaged is that of a sound block
-sound-of : (width : ℕ) (r : Region) (b n : Bytes) → name-of (entry width r b) ≡ some n → sound width r b ≡ true
+pub sound-of : (width : ℕ) (r : Region) (b n : Bytes) → name-of (entry width r b) ≡ some n → sound width r b ≡ true
 sound-of width r b n h = go (sound width r b) refl
   where
     go : (t : Bool) → sound width r b ≡ t → sound width r b ≡ true
@@ -34,7 +34,7 @@ sound-of width r b n h = go (sound width r b) refl
     go false e = none≢some (rw (entry-damaged width r b (rw e)) at h)
 
 module _ (width : ℕ) (r : Region) (s : Bytes) (fit : first-flaw r (entries width r s) ≡ none) (k : ℕ) where
-  fit-sound : k < block-count s → sound width r (block-at s k) ≡ true
+  pub fit-sound : k < block-count s → sound width r (block-at s k) ≡ true
   fit-sound h = go (rw (entries-at width r s k h) at (sorted-drop k (sorted r (entries width r s) fit)))
     where
       go : Sorted none (entry width r (block-at s k) ∷ drop (k + 1) (entries width r s)) → sound width r (block-at s k) ≡ true

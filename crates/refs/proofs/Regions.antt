@@ -10,13 +10,13 @@ use lib.Dec.{isEq}
 use lib.ListN.{length, drop, drop-of-length-le}
 use Rattle.names.specs.Bytes.{Bytes, order}
 use Rattle.names.specs.Name.{directory}
-use Rattle.names.proofs.Tests.{if-case, none≢some}
 use Rattle.names.proofs.Orders.{_≺_, ≺-trans, order-eq, order-refl, gt-not-lt}
-use Rattle.blocks.specs.Block.{Region, block-name, sound}
+use Rattle.blocks.specs.Block.{Region}
 use Rattle.blocks.specs.Entry.{Entry, name-of, entry, entries}
 use Rattle.blocks.specs.Means.{id-width, block-count, block-at, name-within, name-in}
 use Rattle.blocks.proofs.Sorted.{Sorted, sorted-[], sorted-∷, sorted, sorted-drop}
-use Rattle.blocks.proofs.Raw.{Raw, raw}
+use Rattle.blocks.proofs.Raw.{raw}
+use Rattle.blocks.proofs.Sound.{fit-sound}
 use Rattle.blocks.proofs.Walks.{length-entries}
 use Rattle.blocks.proofs.Entries.{entries-at, sound-name}
 use Rattle.refs.specs.Answer.{bears, block-of}
@@ -26,9 +26,6 @@ use Rattle.refs.specs.declared.find.Index.the-variants.{At, Nothing}
 use Rattle.refs.proofs.Blocks.{absent}
 
 -- ---- sorted entries
-
-clash : {A : Type 0} (o : Ordering) → o ≡ Ordering·lt → o ≡ Ordering·eq → A
-clash o p q = absurd (let z : _≡_ {A = ℕ} 0 1 = cc in omega arith)
 
 -- the name at a later place is above
 later-above : (z x : Bytes) {l : List Entry} → Sorted (some z) l → (j : ℕ) (e : Entry) (m : List Entry) → drop j l ≡ e ∷ m → name-of e ≡ some x → z ≺ x
@@ -73,14 +70,6 @@ above p x {e = e} {l = l} (sorted-∷ y k a s) h g =
 
 -- ---- the blocks of a region
 
-sound-of : (width : ℕ) (r : Region) (b n : Bytes) → name-of (entry width r b) ≡ some n → sound width r b ≡ true
-unfolding entry
-sound-of width r b n h = go (sound width r b) refl
-  where
-    go : (k : Bool) → sound width r b ≡ k → k ≡ true
-    go true e = refl
-    go false e = none≢some (rw e at h)
-
 module _ (r : Region) (s : Bytes) (flawless : Flawless r s) where
   pub region-sorted : Sorted none (entries id-width r s)
   region-sorted = sorted r (entries id-width r s) flawless
@@ -90,19 +79,10 @@ module _ (r : Region) (s : Bytes) (flawless : Flawless r s) where
     entry-of-block = entry id-width r (block-at s k)
 
     named : {b : Option Bytes} {l : List Entry} → Sorted b (entry-of-block ∷ l) → name-of entry-of-block ≡ some (name-within (block-at s k))
-    named (sorted-∷ n e a t) =
-        let w : Raw id-width r (block-at s k) n = raw id-width r (block-at s k) n e in
-        rw (sound-name id-width r (block-at s k) (sound-of id-width r (block-at s k) n e), w .named) e
-
-    pub block-sound : sound id-width r (block-at s k) ≡ true
-    block-sound =
-        let t : Sorted none (drop k (entries id-width r s)) = sorted-drop k region-sorted in
-        sound-of id-width r (block-at s k) (name-within (block-at s k)) (named (rw (entries-at id-width r s k h) at t))
+    named (sorted-∷ n e a t) = rw (sound-name id-width r (block-at s k) (fit-sound id-width r s flawless k h), raw id-width r (block-at s k) n e .named) e
 
     pub block-named : name-of entry-of-block ≡ some (name-within (block-at s k))
-    block-named =
-        let t : Sorted none (drop k (entries id-width r s)) = sorted-drop k region-sorted in
-        named (rw (entries-at id-width r s k h) at t)
+    block-named = named (rw (entries-at id-width r s k h) at (sorted-drop k region-sorted))
 
 -- ---- a walk over the names
 

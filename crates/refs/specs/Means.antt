@@ -5,15 +5,62 @@ use mathlib.Core.List.{List}
 use mathlib.Core.Bool.{Bool}
 use mathlib.Core.Option.{Option, none, some}
 use lib.ListN.{drop}
-use Rattle.names.specs.Bytes.{Bytes}
+use Rattle.names.specs.Bytes.{Bytes, if_then_else_}
+use Rattle.names.specs.Means.{content}
+use Rattle.blocks.specs.Content.{Target, object, symbolic}
 use Rattle.blocks.specs.Block.{Region}
 use Rattle.blocks.specs.Entry.{Entry, entries}
 use Rattle.blocks.specs.Fitness.{first-flaw}
-use Rattle.blocks.specs.Means.{id-width, first}
-use Rattle.refs.specs.Answer.{block-of}
+use Rattle.blocks.specs.Means.{id-width, first, name-in, content-in, entry-in, as-entry}
+use Rattle.blocks.specs.declared.block.EntryKind.{EntryKind}
+use Rattle.refs.specs.Answer.{Reference, Answer, nothing, found, refused, says, block-of}
 use Rattle.refs.specs.Search.{clashes}
+use Rattle.refs.specs.declared.raw.Kind.{Kind}
+use Rattle.refs.specs.declared.raw.Kind.the-variants.{Object, Symbolic}
+use Rattle.refs.specs.declared.raw.Reason.{Reason}
+use Rattle.refs.specs.declared.raw.Reason.the-variants.{Damaged, ErrorKind, Unread, Unreadable, Incomplete, Unsupported}
+use Rattle.refs.specs.declared.raw.Outcome.{Outcome}
+use Rattle.refs.specs.declared.raw.Outcome.the-variants as outcome
+use Rattle.refs.specs.declared.raw.Reference as code
+use Rattle.refs.specs.declared.raw.Answered.{Answered}
 use Rattle.refs.specs.declared.find.Index.{Index}
 use Rattle.refs.specs.declared.find.Index.the-variants.{At, Nothing}
+
+-- ---- answers
+
+-- 6 "damaged", 7 "kind 3 or 5", 9 "kind 2", 10 "content unreadable as a reference", 11 "target not complete, 12 apart", 12
+abbrev pub reason-number : Reason → ℕ
+reason-number Damaged = 6
+reason-number ErrorKind = 7
+reason-number Unread = 9
+reason-number Unreadable = 10
+reason-number Incomplete = 11
+reason-number Unsupported = 12
+
+abbrev pub target-of : Kind → Bytes → Bytes → Target
+target-of Object id name = object id
+target-of Symbolic id name = symbolic name
+
+abbrev pub reference-of : code.Reference → Reference
+reference-of r =
+    record {
+      name = content (r .name);
+      target = target-of (r .kind) (r .id .digits) (content (r .target));
+      peeled = if r .«has_peeled» then some (r .peeled .digits) else none;
+    }
+
+abbrev pub answer-with : Outcome → Reference → Answer
+answer-with outcome.Nothing r = nothing
+answer-with outcome.Found r = found r
+answer-with (outcome.Refused why) r = refused (reason-number why)
+
+abbrev pub answered : Answered → Answer
+answered a = answer-with (a .outcome) (reference-of (a .reference))
+
+-- what the entry of a block answers under the name n, if there is a block
+abbrev pub says-at : Bytes → Option Entry → Answer
+says-at n none = nothing
+says-at n (some e) = says id-width n e
 
 -- ---- a region fit for search
 
@@ -33,3 +80,15 @@ IndexOf p s i = (r : Region) → Flawless r s → indexed i (entries id-width r 
 -- the answer is whether a file of the region is a directory of the path p, where the region has no flaw
 abbrev pub ClashOf : Bytes → Bytes → Bool → Type 0
 ClashOf p s b = (r : Region) → Flawless r s → b ≡ clashes p (entries id-width r s)
+
+-- ---- the entry of a block
+
+-- kind, name and content are those of block k of a region
+pub record BlockIs (r : Region) (s : Bytes) (k : ℕ) (kind : EntryKind) (name content : Bytes) : Type 0 where
+  pub name-is : name ≡ name-in s k
+  pub content-is : content ≡ content-in s k
+  pub entry-is : as-entry id-width kind (name-in s k) (content-in s k) ≡ entry-in id-width r s k
+
+-- the answer is that of the entry under the name n, whatever block it is
+abbrev pub EntryAnswer : EntryKind → Bytes → Bytes → Bytes → Answered → Type 0
+EntryAnswer kind n name content a = (r : Region) (s : Bytes) (k : ℕ) → BlockIs r s k kind name content → answered a ≡ says-at n (entry-in id-width r s k)

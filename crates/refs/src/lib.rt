@@ -1,2 +1,3 @@
 // Search, following and listing. The definitions are in specs/, demand 3 in proofs/Claims.antt.
 pub mod find;
+pub mod raw;
