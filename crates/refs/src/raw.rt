@@ -8,7 +8,7 @@ ghost use Rattle.names.specs.Means.{content};
 ghost use Rattle.blocks.specs.Layout.{longest-content};
 ghost use Rattle.blocks.specs.Content.{object, symbolic, read};
 ghost use Rattle.blocks.specs.Means.{id-width, id-in, name-in, refusal-number};
-ghost use Rattle.refs.specs.Answer.{nothing, found, refused, reading-says, strip-answer};
+ghost use Rattle.refs.specs.Answer.{nothing, found, refused, reading-says, strip-reference, strip-answer};
 ghost use Rattle.refs.specs.Means.{reason-number, reference-of, answered, EntryAnswer};
 use blocks::block::EntryKind;
 use blocks::block::block_name;
@@ -169,4 +169,59 @@ fn packed(name: Name, ids: &[u8], has_peeled: bool) -> Answered
         outcome: Outcome::Found,
         reference,
     }
+}
+
+// What an entry answers: a loose file under the name n, a record under its own.
+pub(crate) fn entry_answer(kind: EntryKind, n: Name, own: Name, file: &[u8]) -> Answered
+    requires { ⌜ length (now file) ≤ longest-content ⌝ }
+    ensures { λ a. ⌜ EntryAnswer kind (content n) (content own) (now (file .entry)) a ⌝ }
+{
+    match kind {
+        EntryKind::End => not_found(),
+        EntryKind::Damaged => refused(Reason::Damaged),
+        EntryKind::Failed => refused(Reason::ErrorKind),
+        EntryKind::Loose => loose(n, file),
+        EntryKind::Unread => refused(Reason::Unread),
+        EntryKind::Record => packed(own, file, false),
+        EntryKind::PeeledRecord => packed(own, file, true),
+    }
+}
+
+// The name of block k of a region.
+pub(crate) fn name_at(s: &[u8], k: usize) -> Name
+    ensures { λ n. ⌜ content n ≡ name-in (now (s .entry)) k ⌝ }
+{
+    let m = from_bytes(block_name(s, k));
+    m.name
+}
+
+// The reference without the namespace's expansion in front of its name and its symbolic target.
+fn strip_reference(r: Reference, e: &[u8]) -> Reference
+    ensures { λ q. ⌜ reference-of q ≡ strip-reference (now (e .entry)) (reference-of r) ⌝ }
+{
+    let old_name = r.name;
+    let old_target = r.target;
+    let name = strip_namespace(old_name, e);
+    let target = strip_namespace(old_target, e);
+    let kind = r.kind;
+    let id = r.id;
+    let peeled = r.peeled;
+    Reference {
+        name,
+        kind,
+        id,
+        target,
+        has_peeled: r.has_peeled,
+        peeled,
+    }
+}
+
+// The same for an answer.
+pub(crate) fn strip_answer(a: Answered, e: &[u8]) -> Answered
+    ensures { λ q. ⌜ answered q ≡ strip-answer (now (e .entry)) (answered a) ⌝ }
+{
+    let r = a.reference;
+    let reference = strip_reference(r, e);
+    let outcome = a.outcome;
+    Answered { outcome, reference }
 }
