@@ -4,7 +4,7 @@ use Prim.Native.Nat.{_-_, _≤_}
 use native.Mathlib.Omega.{arith}
 use lib.ListN.{drop, length}
 use borrow.Author.Needs.{needs}
-use Rattle.names.specs.Bytes.{contains, starts-with}
+use Rattle.names.specs.Bytes.{contains}
 use Rattle.names.proofs.Parts.{tail-part}
 use Rattle.names.proofs.Prefix.{starts-nothing}
 use Rattle.names.proofs.Walks.{contains-at, contains-end}

@@ -2,7 +2,7 @@
 use mathlib.Core.Path.{_∙_, sym}
 use borrow.Author.Needs.{needs}
 use borrow.Author.Tests.{not-false, not-true}
-use Rattle.names.specs.Bytes.{bytes, starts-with}
+use Rattle.names.specs.Bytes.{bytes}
 use Rattle.names.specs.Name.{directory}
 use Rattle.names.proofs.Parts.{tail-part}
 use Rattle.names.proofs.Prefix.{starts-both, starts-length}

@@ -3,7 +3,6 @@ use mathlib.Core.Path.{_∙_, sym}
 use native.Mathlib.Omega.{arith}
 use borrow.Author.Needs.{needs}
 use borrow.Author.Tests.{not-false, not-true}
-use Rattle.names.specs.Bytes.{starts-with}
 use Rattle.names.proofs.Parts.{tail-part}
 use Rattle.names.proofs.Prefix.{starts-across, starts-within}
 use Rattle.names.proofs.bytes.starts_joined.Statement.{statement}

@@ -2,7 +2,6 @@
 use mathlib.Core.Bool.{or-true}
 use borrow.Author.Needs.{needs}
 use borrow.Author.Tests.{not-false, not-true}
-use Rattle.names.specs.Bytes.{starts-with}
 use Rattle.names.specs.Name.{looks-full}
 use Rattle.names.proofs.name.looks_like_full_name.Statement.{statement}
 use Rattle.names.proofs.name.looks_like_full_name.Tie as tie

@@ -2,7 +2,6 @@
 use borrow.Author.Needs.{needs}
 use borrow.Author.Tests.{not-false, not-true}
 use Rattle.names.specs.Namespace.{names-check}
-use Rattle.names.specs.WellFormed.{well-formed}
 use Rattle.names.proofs.Held.{made-is, made-ok}
 use Rattle.names.proofs.name.partial_name.Statement.{statement}
 use Rattle.names.proofs.name.partial_name.Tie as tie

@@ -6,7 +6,6 @@ use native.Mathlib.Omega.{arith}
 use lib.ListN.{length}
 use lib.Seq.{paste, paste-suc, paste-zero, take-length, take-paste}
 use borrow.Author.Needs.{needs}
-use Rattle.names.specs.Bytes.{bytes}
 use Rattle.names.specs.Means.{held}
 use Rattle.names.specs.Name.{longest}
 use Rattle.names.proofs.Parts.{part-is}

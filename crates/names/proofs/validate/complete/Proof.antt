@@ -1,8 +1,7 @@
 -- Each test is one part of the definition.
 use borrow.Author.Needs.{needs}
 use borrow.Author.Tests.{not-false, not-true}
-use Rattle.names.specs.Bytes.{contains}
-use Rattle.names.specs.WellFormed.{complete, well-formed}
+use Rattle.names.specs.WellFormed.{complete}
 use Rattle.names.proofs.validate.complete.Statement.{statement}
 use Rattle.names.proofs.validate.complete.Tie as tie
 

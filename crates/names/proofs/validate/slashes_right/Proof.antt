@@ -1,6 +1,5 @@
 -- Each test is one of the rule's three parts.
 use borrow.Author.Needs.{needs}
-use Rattle.names.specs.Bytes.{contains, ends-with, starts-with}
 use Rattle.names.proofs.validate.slashes_right.Statement.{statement}
 use Rattle.names.proofs.validate.slashes_right.Tie as tie
 
