@@ -5,7 +5,7 @@ use Prim.Native.Nat.{_≤_}
 use lib.ListN.{drop, length, take}
 use borrow.Author.Needs.{needs}
 use Rattle.names.specs.Means.{category-with}
-use Rattle.names.specs.Route.{at, route, route-as}
+use Rattle.names.specs.Route.{route, route-as}
 use Rattle.names.proofs.Classes.{off-within}
 use Rattle.names.proofs.Parts.{tail-part}
 use Rattle.names.proofs.Placed.{route-class, route-none}
@@ -13,7 +13,8 @@ use Rattle.names.proofs.find.to_base_dir_and_relative_name.Statement.{s
 use Rattle.names.proofs.find.to_base_dir_and_relative_name.Tie as tie
 
 by-class : (c : tie.After-k) → route (c .before .before .before .before .args .s .now) ≡ route-as (some (category-with (λ k. take k (drop 10 (c .before .before .before .before .args .s .now))) (c .k .given .0 .0))) (c .before .before .before .before .args .s .now) (drop (c .k .given .0 .1 .0) (c .before .before .before .before .args .s .now))
-by-class c = route-class (c .before .before .before .before .args .s .now) (c .before .before .category-and-short-name .result) (c .before .before .category-and-short-name .ensures) (c .k .given .0 .0) (c .k .given .0 .1 .0) (c .k .given .1)
+by-class c =
+    route-class (c .before .before .before .before .args .s .now) (c .before .before .category-and-short-name .result) (c .before .before .category-and-short-name .ensures) (c .k .given .0 .0) (c .k .given .0 .1 .0) (c .k .given .1)
 
 within : (c : tie.After-k) → c .k .given .0 .1 .0 ≤ length (c .before .before .before .before .args .s .now)
 within c = rw (← c .before .before .category-and-short-name .ensures, c .k .given .1) at (off-within (c .before .before .before .before .args .s .now))
@@ -119,60 +120,130 @@ shared-from-requires-10 c κs = search needs
 
 returns : tie.Need-returns
 unfolding route-as
-returns c = rw (by-class (c .before .before .before .before), c .before .enum-told .given .1) (c .shared-from .ensures (c .before .before .before .before .before .before .before .before .args .s .now))
+returns c =
+    rw (
+      by-class (c .before .before .before .before),
+      c .before .enum-told .given .1,
+    )
+    (c .shared-from .ensures (c .before .before .before .before .before .before .before .before .args .s .now))
 
 returns-2 : tie.Need-returns-2
 unfolding route-as
-returns-2 c = rw (by-class (c .before .before .before .before), c .before .enum-told2 .given .1) (c .shared-from2 .ensures (c .before .before .before .before .before .before .before .before .args .s .now))
+returns-2 c =
+    rw (
+      by-class (c .before .before .before .before),
+      c .before .enum-told2 .given .1,
+    )
+    (c .shared-from2 .ensures (c .before .before .before .before .before .before .before .before .args .s .now))
 
 returns-3 : tie.Need-returns-3
 unfolding route-as
-returns-3 c = rw (by-class (c .before .before .before .before), c .before .enum-told3 .given .1) (c .shared-from3 .ensures (c .before .before .before .before .before .before .before .before .args .s .now))
+returns-3 c =
+    rw (
+      by-class (c .before .before .before .before),
+      c .before .enum-told3 .given .1,
+    )
+    (c .shared-from3 .ensures (c .before .before .before .before .before .before .before .before .args .s .now))
 
 returns-4 : tie.Need-returns-4
 unfolding route-as
-returns-4 c = rw (by-class (c .before .before .before .before), c .before .enum-told4 .given .1) (c .shared-from4 .ensures (c .before .before .before .before .before .before .before .before .args .s .now))
+returns-4 c =
+    rw (
+      by-class (c .before .before .before .before),
+      c .before .enum-told4 .given .1,
+    )
+    (c .shared-from4 .ensures (c .before .before .before .before .before .before .before .before .args .s .now))
 
 returns-5 : tie.Need-returns-5
 unfolding route-as
-returns-5 c = rw (by-class (c .before .before .before .before), c .before .enum-told5 .given .1) (c .own-whole .ensures (c .before .before .before .before .before .before .before .before .args .s .now))
+returns-5 c =
+    rw (
+      by-class (c .before .before .before .before),
+      c .before .enum-told5 .given .1,
+    )
+    (c .own-whole .ensures (c .before .before .before .before .before .before .before .before .args .s .now))
 
 returns-6 : tie.Need-returns-6
 unfolding route-as
-returns-6 c = rw (by-class (c .before .before .before .before), c .before .enum-told6 .given .1) (c .shared-from5 .ensures (c .before .before .before .before .before .before .before .before .args .s .now))
+returns-6 c =
+    rw (
+      by-class (c .before .before .before .before),
+      c .before .enum-told6 .given .1,
+    )
+    (c .shared-from5 .ensures (c .before .before .before .before .before .before .before .before .args .s .now))
 
 returns-7 : tie.Need-returns-7
 unfolding route-as
-returns-7 c = rw (by-class (c .before .before .before .before), c .before .enum-told7 .given .1) (c .shared-from6 .ensures (c .before .before .before .before .before .before .before .before .args .s .now))
+returns-7 c =
+    rw (
+      by-class (c .before .before .before .before),
+      c .before .enum-told7 .given .1,
+    )
+    (c .shared-from6 .ensures (c .before .before .before .before .before .before .before .before .args .s .now))
 
 returns-8 : tie.Need-returns-8
 unfolding route-as
-returns-8 c = rw (by-class (c .before .before .before .before), c .before .enum-told8 .given .1) (c .shared-from7 .ensures (c .before .before .before .before .before .before .before .before .args .s .now))
+returns-8 c =
+    rw (
+      by-class (c .before .before .before .before),
+      c .before .enum-told8 .given .1,
+    )
+    (c .shared-from7 .ensures (c .before .before .before .before .before .before .before .before .args .s .now))
 
 returns-9 : tie.Need-returns-9
 unfolding route-as
 returns-9 c =
-    rw (by-class (c .before .before .before .before .before .before .before), c .before .before .before .before .enum-told9 .given .1, ← (rw tail-part at (c .before .before .is-private .ensures)), c .before .if1 .taken) (c .shared-from8 .ensures (c .before .before .before .before .before .before .before .before .before .before .before .args .s .now))
+    rw (
+      by-class (c .before .before .before .before .before .before .before),
+      c .before .before .before .before .enum-told9 .given .1,
+      ← (rw tail-part at (c .before .before .is-private .ensures)),
+      c .before .if1 .taken,
+    )
+    (c .shared-from8 .ensures (c .before .before .before .before .before .before .before .before .before .before .before .args .s .now))
 
 returns-10 : tie.Need-returns-10
 unfolding route-as
 returns-10 c =
-    rw (by-class (c .before .before .before .before .before .before .before), c .before .before .before .before .enum-told9 .given .1, ← (rw tail-part at (c .before .before .is-private .ensures)), c .before .if1 .left) (c .shared-from9 .ensures (c .before .before .before .before .before .before .before .before .before .before .before .args .s .now))
+    rw (
+      by-class (c .before .before .before .before .before .before .before),
+      c .before .before .before .before .enum-told9 .given .1,
+      ← (rw tail-part at (c .before .before .is-private .ensures)),
+      c .before .if1 .left,
+    )
+    (c .shared-from9 .ensures (c .before .before .before .before .before .before .before .before .before .before .before .args .s .now))
 
 returns-11 : tie.Need-returns-11
 unfolding route-as
-returns-11 c = rw (by-class (c .before .before .before .before), c .before .enum-told10 .given .1) (c .own-whole2 .ensures (c .before .before .before .before .before .before .before .before .args .s .now))
+returns-11 c =
+    rw (
+      by-class (c .before .before .before .before),
+      c .before .enum-told10 .given .1,
+    )
+    (c .own-whole2 .ensures (c .before .before .before .before .before .before .before .before .args .s .now))
 
 returns-12 : tie.Need-returns-12
 unfolding route-as
-returns-12 c = rw (by-class (c .before .before .before .before), c .before .enum-told11 .given .1) (c .own-whole3 .ensures (c .before .before .before .before .before .before .before .before .args .s .now))
+returns-12 c =
+    rw (
+      by-class (c .before .before .before .before),
+      c .before .enum-told11 .given .1,
+    )
+    (c .own-whole3 .ensures (c .before .before .before .before .before .before .before .before .args .s .now))
 
 returns-13 : tie.Need-returns-13
 unfolding route-as
-returns-13 c = rw (by-class (c .before .before .before .before), c .before .enum-told12 .given .1) (c .own-whole4 .ensures (c .before .before .before .before .before .before .before .before .args .s .now))
+returns-13 c =
+    rw (
+      by-class (c .before .before .before .before),
+      c .before .enum-told12 .given .1,
+    )
+    (c .own-whole4 .ensures (c .before .before .before .before .before .before .before .before .args .s .now))
 
 returns-14 : tie.Need-returns-14
-returns-14 c = rw (route-none (c .before .before .before .before .before .args .s .now) (c .before .before .before .category-and-short-name .result) (c .before .before .before .category-and-short-name .ensures) (c .before .enum-told13 .given .1)) (c .shared-from10 .ensures (c .before .before .before .before .before .args .s .now))
+returns-14 c =
+    let args = c .before .before .before .before .before .args in
+    rw (route-none (args .s .now) (c .before .before .before .category-and-short-name .result) (c .before .before .before .category-and-short-name .ensures) (c .before .enum-told13 .given .1))
+    (c .shared-from10 .ensures (args .s .now))
 
 pub to-base-dir-and-relative-name-spec : {M : Type 1} → statement M
 to-base-dir-and-relative-name-spec =

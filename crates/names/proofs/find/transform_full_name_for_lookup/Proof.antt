@@ -10,7 +10,8 @@ use Rattle.names.proofs.find.transform_full_name_for_lookup.Statement.{
 use Rattle.names.proofs.find.transform_full_name_for_lookup.Tie as tie
 
 by-class : (c : tie.After-k) → packed-name (c .before .before .before .before .args .s .now) ≡ packed-as (some (category-with (λ k. take k (drop 10 (c .before .before .before .before .args .s .now))) (c .k .given .0 .0))) (c .before .before .before .before .args .s .now) (drop (c .k .given .0 .1 .0) (c .before .before .before .before .args .s .now))
-by-class c = packed-class (c .before .before .before .before .args .s .now) (c .before .before .category-and-short-name .result) (c .before .before .category-and-short-name .ensures) (c .k .given .0 .0) (c .k .given .0 .1 .0) (c .k .given .1)
+by-class c =
+    packed-class (c .before .before .before .before .args .s .now) (c .before .before .category-and-short-name .result) (c .before .before .category-and-short-name .ensures) (c .k .given .0 .0) (c .k .given .0 .1 .0) (c .k .given .1)
 
 category-and-short-name-requires : tie.Need-category-and-short-name-requires
 category-and-short-name-requires c κs = search needs
@@ -106,7 +107,8 @@ unfolding packed-as
 returns-12 c = rw (by-class (c .before .before .before), c .enum-told12 .given .1)
 
 returns-13 : tie.Need-returns-13
-returns-13 c = rw (packed-none (c .before .before .before .before .args .s .now) (c .before .before .category-and-short-name .result) (c .before .before .category-and-short-name .ensures) (c .enum-told13 .given .1))
+returns-13 c =
+    rw (packed-none (c .before .before .before .before .args .s .now) (c .before .before .category-and-short-name .result) (c .before .before .category-and-short-name .ensures) (c .enum-told13 .given .1))
 
 pub transform-full-name-for-lookup-spec : {M : Type 1} → statement M
 transform-full-name-for-lookup-spec =

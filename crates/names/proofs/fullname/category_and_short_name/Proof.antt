@@ -4,7 +4,6 @@ use lib.Dec.{lit<}
 use lib.ListN.{drop, take}
 use borrow.Author.Needs.{needs}
 use Rattle.names.specs.Bytes.{bytes}
-use Rattle.names.specs.Route.{at}
 use Rattle.names.proofs.Classes.{Left, fails, first, holds, tries, untried}
 use Rattle.names.proofs.Parts.{tail-part}
 use Rattle.names.proofs.Prefix.{starts-length}
@@ -62,7 +61,8 @@ classified-requires c κs = search needs
 
 returns : tie.Need-returns
 unfolding tries
-returns c = c .classified .ensures _ ∙ sym (holds (untried (c .before .before .before .before .before .args .s .now)) (lit< tt) (sym (c .before .before .starts-with .ensures) ∙ c .before .if1 .taken))
+returns c =
+    c .classified .ensures _ ∙ sym (holds (untried (c .before .before .before .before .before .args .s .now)) (lit< tt) (sym (c .before .before .starts-with .ensures) ∙ c .before .if1 .taken))
 
 slice-aggregate-starts-with-2 : tie.Need-slice-aggregate-starts-with-2
 slice-aggregate-starts-with-2 c = search needs
@@ -75,7 +75,8 @@ classified-requires-2 c κs = search needs
 
 returns-2 : tie.Need-returns-2
 unfolding tries
-returns-2 c = c .classified2 .ensures _ ∙ sym (holds (left-1 (c .before .before .before .before)) (lit< tt) (sym (c .before .before .starts-with2 .ensures) ∙ c .before .if2 .taken))
+returns-2 c =
+    c .classified2 .ensures _ ∙ sym (holds (left-1 (c .before .before .before .before)) (lit< tt) (sym (c .before .before .starts-with2 .ensures) ∙ c .before .if2 .taken))
 
 slice-aggregate-starts-with-3 : tie.Need-slice-aggregate-starts-with-3
 slice-aggregate-starts-with-3 c = search needs
@@ -88,7 +89,8 @@ classified-requires-3 c κs = search needs
 
 returns-3 : tie.Need-returns-3
 unfolding tries
-returns-3 c = c .classified3 .ensures _ ∙ sym (holds (left-2 (c .before .before .before .before)) (lit< tt) (sym (c .before .before .starts-with3 .ensures) ∙ c .before .if3 .taken))
+returns-3 c =
+    c .classified3 .ensures _ ∙ sym (holds (left-2 (c .before .before .before .before)) (lit< tt) (sym (c .before .before .starts-with3 .ensures) ∙ c .before .if3 .taken))
 
 slice-aggregate-starts-with-4 : tie.Need-slice-aggregate-starts-with-4
 slice-aggregate-starts-with-4 c = search needs
@@ -101,7 +103,8 @@ classified-requires-4 c κs = search needs
 
 returns-4 : tie.Need-returns-4
 unfolding tries
-returns-4 c = c .classified4 .ensures _ ∙ sym (holds (left-3 (c .before .before .before .before)) (lit< tt) (sym (c .before .before .starts-with4 .ensures) ∙ c .before .if4 .taken))
+returns-4 c =
+    c .classified4 .ensures _ ∙ sym (holds (left-3 (c .before .before .before .before)) (lit< tt) (sym (c .before .before .starts-with4 .ensures) ∙ c .before .if4 .taken))
 
 slice-aggregate-starts-with-5 : tie.Need-slice-aggregate-starts-with-5
 slice-aggregate-starts-with-5 c = search needs
@@ -114,7 +117,8 @@ classified-requires-5 c κs = search needs
 
 returns-5 : tie.Need-returns-5
 unfolding tries
-returns-5 c = c .classified5 .ensures _ ∙ sym (holds (left-4 (c .before .before .before .before)) (lit< tt) (sym (c .before .before .starts-with5 .ensures) ∙ c .before .if5 .taken))
+returns-5 c =
+    c .classified5 .ensures _ ∙ sym (holds (left-4 (c .before .before .before .before)) (lit< tt) (sym (c .before .before .starts-with5 .ensures) ∙ c .before .if5 .taken))
 
 slice-aggregate-starts-with-6 : tie.Need-slice-aggregate-starts-with-6
 slice-aggregate-starts-with-6 c = search needs
@@ -127,7 +131,8 @@ classified-requires-6 c κs = search needs
 
 returns-6 : tie.Need-returns-6
 unfolding tries
-returns-6 c = c .classified6 .ensures _ ∙ sym (holds (left-5 (c .before .before .before .before)) (lit< tt) (sym (c .before .before .starts-with6 .ensures) ∙ c .before .if6 .taken))
+returns-6 c =
+    c .classified6 .ensures _ ∙ sym (holds (left-5 (c .before .before .before .before)) (lit< tt) (sym (c .before .before .starts-with6 .ensures) ∙ c .before .if6 .taken))
 
 slice-aggregate-starts-with-7 : tie.Need-slice-aggregate-starts-with-7
 slice-aggregate-starts-with-7 c = search needs
@@ -140,7 +145,8 @@ classified-requires-7 c κs = search needs
 
 returns-7 : tie.Need-returns-7
 unfolding tries
-returns-7 c = c .classified7 .ensures _ ∙ sym (holds (left-6 (c .before .before .before .before)) (lit< tt) (sym (c .before .before .starts-with7 .ensures) ∙ c .before .if7 .taken))
+returns-7 c =
+    c .classified7 .ensures _ ∙ sym (holds (left-6 (c .before .before .before .before)) (lit< tt) (sym (c .before .before .starts-with7 .ensures) ∙ c .before .if7 .taken))
 
 is-pseudo-ref-requires : tie.Need-is-pseudo-ref-requires
 is-pseudo-ref-requires c κs = search needs
@@ -159,10 +165,12 @@ starts-with-requires-8 : tie.Need-starts-with-requires-8
 starts-with-requires-8 c κs = search needs
 
 sub-classify-below : tie.Need-sub-classify-below
-sub-classify-below c = starts-length (bytes "main-worktree/") (c .before .before .before .before .before .before .before .before .before .before .before .before .before .before .before .before .before .before .before .before .before .before .before .before .before .before .before .args .s .now) (sym (c .before .starts-with8 .ensures) ∙ c .if9 .taken)
+sub-classify-below c =
+    starts-length (bytes "main-worktree/") (c .before .before .before .before .before .before .before .before .before .before .before .before .before .before .before .before .before .before .before .before .before .before .before .before .before .before .before .args .s .now) (sym (c .before .starts-with8 .ensures) ∙ c .if9 .taken)
 
 part-classify-below-start : tie.Need-part-classify-below-start
-part-classify-below-start c = starts-length (bytes "main-worktree/") (c .before .before .before .before .before .before .before .before .before .before .before .before .before .before .before .before .before .before .before .before .before .before .before .before .before .before .before .args .s .now) (sym (c .before .starts-with8 .ensures) ∙ c .if9 .taken)
+part-classify-below-start c =
+    starts-length (bytes "main-worktree/") (c .before .before .before .before .before .before .before .before .before .before .before .before .before .before .before .before .before .before .before .before .before .before .before .before .before .before .before .args .s .now) (sym (c .before .starts-with8 .ensures) ∙ c .if9 .taken)
 
 part-classify-below-end : tie.Need-part-classify-below-end
 part-classify-below-end c = search needs
@@ -172,7 +180,8 @@ classify-below-requires c κs = search needs
 
 returns-9 : tie.Need-returns-9
 unfolding tries
-returns-9 c = (rw tail-part at (c .classify-below .ensures (λ k. take k (drop 10 (c .before .before .before .before .before .before .before .before .before .before .before .before .before .before .before .before .before .before .before .before .before .before .before .before .before .before .before .before .before .args .s .now))))) ∙ sym (holds (left-8 (c .before .before .before .before .before)) (lit< tt) (sym (c .before .before .before .starts-with8 .ensures) ∙ c .before .before .if9 .taken))
+returns-9 c =
+    (rw tail-part at (c .classify-below .ensures (λ k. take k (drop 10 (c .before .before .before .before .before .before .before .before .before .before .before .before .before .before .before .before .before .before .before .before .before .before .before .before .before .before .before .before .before .args .s .now))))) ∙ sym (holds (left-8 (c .before .before .before .before .before)) (lit< tt) (sym (c .before .before .before .starts-with8 .ensures) ∙ c .before .before .if9 .taken))
 
 slice-aggregate-starts-with-9 : tie.Need-slice-aggregate-starts-with-9
 slice-aggregate-starts-with-9 c = search needs
@@ -181,10 +190,12 @@ starts-with-requires-9 : tie.Need-starts-with-requires-9
 starts-with-requires-9 c κs = search needs
 
 sub-classify-linked : tie.Need-sub-classify-linked
-sub-classify-linked c = starts-length (bytes "worktrees/") (c .before .before .before .before .before .before .before .before .before .before .before .before .before .before .before .before .before .before .before .before .before .before .before .before .before .before .before .before .before .before .args .s .now) (sym (c .before .starts-with9 .ensures) ∙ c .if10 .taken)
+sub-classify-linked c =
+    starts-length (bytes "worktrees/") (c .before .before .before .before .before .before .before .before .before .before .before .before .before .before .before .before .before .before .before .before .before .before .before .before .before .before .before .before .before .before .args .s .now) (sym (c .before .starts-with9 .ensures) ∙ c .if10 .taken)
 
 part-classify-linked-start : tie.Need-part-classify-linked-start
-part-classify-linked-start c = starts-length (bytes "worktrees/") (c .before .before .before .before .before .before .before .before .before .before .before .before .before .before .before .before .before .before .before .before .before .before .before .before .before .before .before .before .before .before .args .s .now) (sym (c .before .starts-with9 .ensures) ∙ c .if10 .taken)
+part-classify-linked-start c =
+    starts-length (bytes "worktrees/") (c .before .before .before .before .before .before .before .before .before .before .before .before .before .before .before .before .before .before .before .before .before .before .before .before .before .before .before .before .before .before .args .s .now) (sym (c .before .starts-with9 .ensures) ∙ c .if10 .taken)
 
 part-classify-linked-end : tie.Need-part-classify-linked-end
 part-classify-linked-end c = search needs
@@ -194,7 +205,8 @@ classify-linked-requires c κs = search needs
 
 returns-10 : tie.Need-returns-10
 unfolding tries
-returns-10 c = (simp tail-part at (c .classify-linked .ensures)) ∙ sym (holds (left-9 (c .before .before .before .before .before)) (lit< tt) (sym (c .before .before .before .starts-with9 .ensures) ∙ c .before .before .if10 .taken))
+returns-10 c =
+    (simp tail-part at (c .classify-linked .ensures)) ∙ sym (holds (left-9 (c .before .before .before .before .before)) (lit< tt) (sym (c .before .before .before .starts-with9 .ensures) ∙ c .before .before .if10 .taken))
 
 returns-11 : tie.Need-returns-11
 unfolding tries first

@@ -24,7 +24,12 @@ well-formed-requires c κs = search needs
 
 returns-2 : tie.Need-returns-2
 unfolding expanded names-check
-returns-2 c = rw (le-leb (length (c .before .before .before .before .before .before .args .s .now)) longest (c .before .before .if1 .left), ← c .before .well-formed .ensures, not-true (c .before .well-formed .result) (c .if2 .taken))
+returns-2 c =
+    rw (
+      le-leb (length (c .before .before .before .before .before .before .args .s .now)) longest (c .before .before .if1 .left),
+      ← c .before .well-formed .ensures,
+      not-true (c .before .well-formed .result) (c .if2 .taken),
+    )
 
 returns-3 : tie.Need-returns-3
 unfolding expanded names-check
@@ -40,14 +45,15 @@ returns-3 c =
 returns-4 : tie.Need-returns-4
 unfolding expanded names-check
 returns-4 c =
+    let args = c .before .before .before .before .before .before .before .args in
     let k = not-false (c .before .before .before .before .before .expansion .result .ok) (c .if3 .left) in
     rw (
-      le-leb (length (c .before .before .before .before .before .before .before .args .s .now)) longest (c .before .before .before .if1 .left),
+      le-leb (length (args .s .now)) longest (c .before .before .before .if1 .left),
       ← c .before .before .well-formed .ensures,
       not-false (c .before .before .well-formed .result) (c .before .if2 .left),
       ← fitting (c .before .before .before .before .before),
       k,
-      made-is (c .before .before .before .before .before .expansion .result) (expand (c .before .before .before .before .before .before .before .args .s .now)) (c .before .before .before .before .before .expansion .ensures) k,
+      made-is (c .before .before .before .before .before .expansion .result) (expand (args .s .now)) (c .before .before .before .before .before .expansion .ensures) k,
     )
 
 pub expand-spec : {M : Type 1} → statement M

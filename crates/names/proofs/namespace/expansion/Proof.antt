@@ -54,10 +54,11 @@ join-both-requires c κs = search needs
 
 returns : tie.Need-returns Inv-loop μ-loop
 returns c =
+    let loop = c .before .before .before .before .before .before .before .loop in
     let s = c .before .before .before .before .before .before .before .before .before .before .before .before .args .s .now in
-    let i = c .before .before .before .before .before .before .before .loop .i in
-    let x = content (c .before .before .before .before .before .before .before .loop .out) ++ part s (c .before .before .before .before .before .before .before .loop .start) i ++ bytes "/refs/namespaces/" in
-    rw (c .before .before .before .before .before .before .before .loop .inv .2, whole-slash s (c .before .before .before .before .before .before .before .loop .start) i (content (c .before .before .before .before .before .before .before .loop .out)) (omega arith) (c .before .before .before .before .if1 .taken))
+    let i = loop .i in
+    let x = content (loop .out) ++ part s (loop .start) i ++ bytes "/refs/namespaces/" in
+    rw (loop .inv .2, whole-slash s (loop .start) i (content (loop .out)) (omega arith) (c .before .before .before .before .if1 .taken))
     (made-longer (c .before .join-both .result) x (c .before .join-both .ensures) (whole s (i + 1) (i + 1) x) (simp length-append (omega arith)) (not-true (c .before .join-both .result .ok) (c .if2 .taken)))
 
 add-start : tie.Need-add-start Inv-loop μ-loop
@@ -71,16 +72,17 @@ loop-less c = search needs
 
 loop-again : tie.Need-loop-again Inv-loop μ-loop
 loop-again c =
+    let loop = c .before .before .before .loop in
     let s = c .before .before .before .before .before .before .before .before .args .s .now in
-    let i = c .before .before .before .loop .i in
-    let x = content (c .before .before .before .loop .out) ++ part s (c .before .before .before .loop .start) i ++ bytes "/refs/namespaces/" in
+    let i = loop .i in
+    let x = content (loop .out) ++ part s (loop .start) i ++ bytes "/refs/namespaces/" in
     ⊎-elim (λ w.
     let e : content (c .if1 .out) ≡ x = rw (w .6) (made-is (w .3 .result) x (w .3 .ensures) (not-false (w .3 .result .ok) (w .4 .left))) in
-    (omega (arith, w .7), omega arith, rw (e, w .7, c .before .before .before .loop .inv .2) (whole-slash s (c .before .before .before .loop .start) i (content (c .before .before .before .loop .out)) (omega arith) (w .0 .taken))))
+    (omega (arith, w .7), omega arith, rw (e, w .7, loop .inv .2) (whole-slash s (loop .start) i (content (loop .out)) (omega arith) (w .0 .taken))))
     (λ w. (
       omega (arith, w .2),
       omega arith,
-      rw (w .1, w .2, c .before .before .before .loop .inv .2) (whole-other s (c .before .before .before .loop .start) i (content (c .before .before .before .loop .out)) (omega arith) (omega arith) (w .0 .left)),
+      rw (w .1, w .2, loop .inv .2) (whole-other s (loop .start) i (content (loop .out)) (omega arith) (omega arith) (w .0 .left)),
     )) (c .if1 .came)
 
 sub-join-both-2 : tie.Need-sub-join-both-2 Inv-loop μ-loop
@@ -100,8 +102,10 @@ join-both-requires-2 c κs = search needs
 
 returns-2 : tie.Need-returns-2 Inv-loop μ-loop
 returns-2 c =
-    let e : c .before .before .before .before .loop .i ≡ length (c .before .before .before .before .before .before .before .before .before .args .s .now) = omega arith in
-    rw (c .before .before .before .before .loop .inv .2, whole-end (c .before .before .before .before .before .before .before .before .before .args .s .now) (c .before .before .before .before .loop .start) (c .before .before .before .before .loop .i) (content (c .before .before .before .before .loop .out)) (omega arith), e) (c .join-both2 .ensures)
+    let args = c .before .before .before .before .before .before .before .before .before .args in
+    let loop = c .before .before .before .before .loop in
+    let e : loop .i ≡ length (args .s .now) = omega arith in
+    rw (loop .inv .2, whole-end (args .s .now) (loop .start) (loop .i) (content (loop .out)) (omega arith), e) (c .join-both2 .ensures)
 
 pub expansion-spec : {M : Type 1} → statement M
 expansion-spec =
