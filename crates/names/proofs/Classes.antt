@@ -41,27 +41,26 @@ first [] = none
 first (t ∷ l) = if t .0 then t .1 else first l
 
 -- the first k tests have failed
-abbrev pub Left : ℕ → Bytes → Type 0
-Left k s = classify s ≡ first (drop k (tries s))
+pub record Left (k : ℕ) (s : Bytes) : Type 0 where
+  pub is : classify s ≡ first (drop k (tries s))
 
-module _ (s : Bytes) where
-  pub untried : Left 0 s
-  unfolding classify tries first
-  untried = refl
+pub untried : (s : Bytes) → Left 0 s
+unfolding classify tries first
+untried s = record { is = refl }
 
-  -- the next one fails too, or holds
-  module _ (k : ℕ) (h : k < 10) (l : Left k s) where
-    in-range : k < length (tries s)
-    unfolding tries
-    in-range = h
+-- the next one fails too, or holds
+module _ {k : ℕ} {s : Bytes} (l : Left k s) (h : k < 10) where
+  in-range : k < length (tries s)
+  unfolding tries
+  in-range = h
 
-    pub fails : getD (tries s) k (false, none) .0 ≡ false → Left (k + 1) s
-    unfolding first
-    fails e = l ∙ rw (add-one, drop-cons (tries s) k (false, none) in-range, e)
+  pub fails : getD (tries s) k (false, none) .0 ≡ false → Left (k + 1) s
+  unfolding first
+  fails e = record { is = l .is ∙ rw (add-one, drop-cons (tries s) k (false, none) in-range, e) }
 
-    pub holds : getD (tries s) k (false, none) .0 ≡ true → classify s ≡ getD (tries s) k (false, none) .1
-    unfolding first
-    holds e = l ∙ rw (drop-cons (tries s) k (false, none) in-range, e)
+  pub holds : getD (tries s) k (false, none) .0 ≡ true → classify s ≡ getD (tries s) k (false, none) .1
+  unfolding first
+  holds e = l .is ∙ rw (drop-cons (tries s) k (false, none) in-range, e)
 
 -- ---- the first slash
 

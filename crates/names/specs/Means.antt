@@ -2,12 +2,13 @@
 use mathlib.Core.Path.{_≡_}
 use Prim.Native.Nat.{ℕ, _≤_, Ordering, Ordering·lt, Ordering·eq, Ordering·gt}
 use mathlib.Core.Option.{Option, none, some}
-use lib.ListN.{length, take}
+use lib.ListN.{length, take, drop}
 use Rattle.names.specs.Bytes.{Bytes, bytes, if_then_else_, after}
 use Rattle.names.specs.Check.{Check, unless, _or-else_, Checked, checked}
 use Rattle.names.specs.Name.{longest, fits}
 use Rattle.names.specs.WellFormed.{complete}
 use Rattle.names.specs.Category.{Category, Tag, LocalBranch, RemoteBranch, Note, Bisect, WorktreePrivate, Rewritten, PseudoRef, MainPseudoRef, MainRef, LinkedPseudoRef, LinkedRef, Class, class}
+use Rattle.names.specs.Route.{Base, own, shared, Place, at}
 use Rattle.names.specs.declared.bytes.Order.{Order}
 use Rattle.names.specs.declared.bytes.Order.the-variants.{Less, Equal, Greater}
 use Rattle.names.specs.declared.name.Name.{Name}
@@ -19,6 +20,12 @@ use Rattle.names.specs.declared.name.Verdict.{Verdict}
 use Rattle.names.specs.declared.name.Verdict.the-variants.{Accepted, Refused}
 use Rattle.names.specs.declared.name.CheckedPartial.{CheckedPartial}
 use Rattle.names.specs.declared.fullname.CheckedFull.{CheckedFull}
+use Rattle.names.specs.declared.namespace.CheckedNamespace.{CheckedNamespace}
+use Rattle.names.specs.declared.find.Base as code-base
+use Rattle.names.specs.declared.find.Base.the-variants.{Own, Shared}
+use Rattle.names.specs.declared.find.Routed.{Routed}
+use Rattle.names.specs.declared.find.Packed.{Packed}
+use Rattle.names.specs.declared.find.Packed.the-variants.{From, Never}
 use Rattle.names.specs.declared.fullname.Slash.{Slash}
 use Rattle.names.specs.declared.fullname.Slash.the-variants.{At, Nowhere}
 use Rattle.names.specs.declared.fullname.Category as code
@@ -73,6 +80,9 @@ checked-partial r = checked (check-of (r .verdict)) (content (r .name .0))
 abbrev pub checked-full : CheckedFull → Checked Bytes
 checked-full r = checked (check-of (r .verdict)) (content (r .name .0))
 
+abbrev pub checked-namespace : CheckedNamespace → Checked Bytes
+checked-namespace r = checked (check-of (r .verdict)) (content (r .name .0))
+
 -- 3 "over 250 bytes", 4 "not complete where a complete one is due"
 unfoldable pub full-checked : Bytes → Checked Bytes
 full-checked s = checked (unless 3 (fits s) or-else unless 4 (complete s)) s
@@ -105,3 +115,18 @@ class-with w Unclassified = none
 -- the class of the name s, where a worktree's name stands behind `worktrees/`
 abbrev pub class-of : Bytes → code-class.Class → Option Class
 class-of s r = class-with (λ k. take k (after (bytes "worktrees/") s)) r
+
+-- ---- where a name is read
+
+abbrev pub base-of : code-base.Base → Base
+base-of Own = own
+base-of Shared = shared
+
+-- the place of the name s
+abbrev pub place-of : Bytes → Routed → Place
+place-of s r = at (base-of (r .base)) (drop (r .off) s)
+
+-- under which name s is sought packed
+abbrev pub packed-of : Bytes → Packed → Option Bytes
+packed-of s (From off) = some (drop off s)
+packed-of s Never = none

@@ -1,6 +1,5 @@
 -- The tests are the definition's.
 use borrow.Author.Needs.{needs}
-use Rattle.names.specs.Bytes.{starts-with}
 use Rattle.names.specs.Category.{classify-below}
 use Rattle.names.proofs.fullname.classify_below.Statement.{statement}
 use Rattle.names.proofs.fullname.classify_below.Tie as tie

@@ -47,7 +47,8 @@ enum-told c = search needs
 
 returns : tie.Need-returns
 unfolding classify-linked
-returns c = c .classify-below .ensures (λ k. take k (c .before .before .before .before .before .before .before .args .rest .now)) ∙ rw (slash-is (c .before .before .before), tail-part)
+returns c =
+    c .classify-below .ensures (λ k. take k (c .before .before .before .before .before .before .before .args .rest .now)) ∙ rw (slash-is (c .before .before .before), tail-part)
 
 returns-2 : tie.Need-returns-2
 unfolding classify-linked

@@ -22,7 +22,11 @@ shared-slice-read-if1 : tie.Need-shared-slice-read-if1 Inv-loop μ-loop
 shared-slice-read-if1 c = search needs
 
 returns : tie.Need-returns Inv-loop μ-loop
-returns c = rw (c .before .before .before .loop .inv .1, slash-here (c .before .before .before .before .args .s .now) (c .before .before .before .loop .i) (omega arith) (c .if1 .taken))
+returns c =
+    rw (
+      c .before .before .before .loop .inv .1,
+      slash-here (c .before .before .before .before .args .s .now) (c .before .before .before .loop .i) (omega arith) (c .if1 .taken),
+    )
 
 add-i : tie.Need-add-i Inv-loop μ-loop
 add-i c = search needs
@@ -31,7 +35,8 @@ loop-less : tie.Need-loop-less Inv-loop μ-loop
 loop-less c = search needs
 
 loop-again : tie.Need-loop-again Inv-loop μ-loop
-loop-again c = (omega arith, rw (c .before .before .before .loop .inv .1) (slash-later (c .before .before .before .before .args .s .now) (c .before .before .before .loop .i) (omega arith) (c .if1 .left)))
+loop-again c =
+    (omega arith, rw (c .before .before .before .loop .inv .1) (slash-later (c .before .before .before .before .args .s .now) (c .before .before .before .loop .i) (omega arith) (c .if1 .left)))
 
 returns-2 : tie.Need-returns-2 Inv-loop μ-loop
 returns-2 c = rw (c .before .loop .inv .1, slash-nowhere (c .before .before .args .s .now) (c .before .loop .i) (omega arith))

@@ -11,7 +11,11 @@ from-bytes-requires c κs = search needs
 
 returns : tie.Need-returns
 unfolding full-checked
-returns c = rw (← made-ok (c .before .before .from-bytes .result) (c .before .before .before .before .args .s .now) (c .before .before .from-bytes .ensures), not-true (c .before .before .from-bytes .result .ok) (c .if1 .taken))
+returns c =
+    rw (
+      ← made-ok (c .before .before .from-bytes .result) (c .before .before .before .before .args .s .now) (c .before .before .from-bytes .ensures),
+      not-true (c .before .before .from-bytes .result .ok) (c .if1 .taken),
+    )
 
 complete-requires : tie.Need-complete-requires
 complete-requires c κs = search needs
@@ -29,13 +33,14 @@ returns-2 c =
 returns-3 : tie.Need-returns-3
 unfolding full-checked
 returns-3 c =
+    let args = c .before .before .before .before .before .before .args in
     let k = not-false (c .before .before .before .before .from-bytes .result .ok) (c .before .before .if1 .left) in
     rw (
-      ← made-ok (c .before .before .before .before .from-bytes .result) (c .before .before .before .before .before .before .args .s .now) (c .before .before .before .before .from-bytes .ensures),
+      ← made-ok (c .before .before .before .before .from-bytes .result) (args .s .now) (c .before .before .before .before .from-bytes .ensures),
       k,
       ← c .before .complete .ensures,
       not-false (c .before .complete .result) (c .if2 .left),
-      made-is (c .before .before .before .before .from-bytes .result) (c .before .before .before .before .before .before .args .s .now) (c .before .before .before .before .from-bytes .ensures) k,
+      made-is (c .before .before .before .before .from-bytes .result) (args .s .now) (c .before .before .before .before .from-bytes .ensures) k,
     )
 
 pub full-name-spec : {M : Type 1} → statement M

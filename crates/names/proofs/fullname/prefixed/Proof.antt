@@ -18,15 +18,22 @@ from-bytes-requires-2 : tie.Need-from-bytes-requires-2
 from-bytes-requires-2 c κs = search needs
 
 returns-2 : tie.Need-returns-2
-returns-2 c = rw (← c .before .before .before .starts-with .ensures, c .before .before .if1 .left) (made-refused (c .before .from-bytes2 .result) (c .before .before .before .before .before .before .args .front .now) (c .before .from-bytes2 .ensures) (c .before .before .before .before .before .before .args .p .now) (not-true (c .before .from-bytes2 .result .ok) (c .if2 .taken)))
+returns-2 c =
+    let args = c .before .before .before .before .before .before .args in
+    rw (
+      ← c .before .before .before .starts-with .ensures,
+      c .before .before .if1 .left,
+    )
+    (made-refused (c .before .from-bytes2 .result) (args .front .now) (c .before .from-bytes2 .ensures) (args .p .now) (not-true (c .before .from-bytes2 .result .ok) (c .if2 .taken)))
 
 join-requires : tie.Need-join-requires
 join-requires c κs = search needs
 
 returns-3 : tie.Need-returns-3
 returns-3 c =
+    let args = c .before .before .before .before .before .before .before .before .args in
     rw (← c .before .before .before .before .before .starts-with .ensures, c .before .before .before .before .if1 .left)
-    (made-behind (c .before .before .before .from-bytes2 .result) (c .before .before .before .before .before .before .before .before .args .front .now) (c .before .before .before .from-bytes2 .ensures) (c .join .result) (c .before .before .before .before .before .before .before .before .args .p .now) (not-false (c .before .before .before .from-bytes2 .result .ok) (c .before .before .if2 .left)) (c .join .ensures))
+    (made-behind (c .before .before .before .from-bytes2 .result) (args .front .now) (c .before .before .before .from-bytes2 .ensures) (c .join .result) (args .p .now) (not-false (c .before .before .before .from-bytes2 .result .ok) (c .before .before .if2 .left)) (c .join .ensures))
 
 pub prefixed-spec : {M : Type 1} → statement M
 prefixed-spec =

@@ -14,8 +14,9 @@ worktree-prefix-requires c κs = search needs
 
 returns : tie.Need-returns
 returns c =
-    let front = bytes "worktrees/" ++ c .before .before .before .before .args .worktree .now ++ bytes "/" in
-    made-longer (c .before .worktree-prefix .result) front (c .before .worktree-prefix .ensures) (behind front (c .before .before .before .before .args .p .now)) (behind-longer front (c .before .before .before .before .args .p .now)) (not-true (c .before .worktree-prefix .result .ok) (c .if1 .taken))
+    let args = c .before .before .before .before .args in
+    let front = bytes "worktrees/" ++ args .worktree .now ++ bytes "/" in
+    made-longer (c .before .worktree-prefix .result) front (c .before .worktree-prefix .ensures) (behind front (args .p .now)) (behind-longer front (args .p .now)) (not-true (c .before .worktree-prefix .result .ok) (c .if1 .taken))
 
 slice-aggregate-lend : tie.Need-slice-aggregate-lend
 slice-aggregate-lend c = search needs
@@ -29,7 +30,10 @@ prefixed-requires c κs = search needs
 returns-2 : tie.Need-returns-2
 returns-2 c =
     let front = bytes "worktrees/" ++ c .before .before .before .before .before .before .before .before .before .args .worktree .now ++ bytes "/" in
-    rw (c .before .lend .ensures, made-is (c .before .before .before .before .before .before .worktree-prefix .result) front (c .before .before .before .before .before .before .worktree-prefix .ensures) (not-false (c .before .before .before .before .before .before .worktree-prefix .result .ok) (c .before .before .before .before .before .if1 .left))) at (c .prefixed .ensures)
+    rw (
+      c .before .lend .ensures,
+      made-is (c .before .before .before .before .before .before .worktree-prefix .result) front (c .before .before .before .before .before .before .worktree-prefix .ensures) (not-false (c .before .before .before .before .before .before .worktree-prefix .result .ok) (c .before .before .before .before .before .if1 .left)),
+    ) at (c .prefixed .ensures)
 
 pub prefixed-linked-spec : {M : Type 1} → statement M
 prefixed-linked-spec =

@@ -28,11 +28,13 @@ empty-requires c κs = search needs
 
 pushed-requires : tie.Need-pushed-requires
 pushed-requires c κs =
+    let args = c .before .before .before .before .before .before .before .args in
     rw (c .empty .ensures, c .before .without .ensures, c .before .before .lend .ensures, whole (c .before .before .before .before .before))
-    (omega (arith, strip-length (c .before .before .before .before .before .before .before .args .e .now) (content (c .before .before .before .before .before .before .before .args .n)), c .before .before .before .before .before .size .ensures .is, c .before .before .before .before .before .size .ensures .small))
+    (omega (arith, strip-length (args .e .now) (content (args .n)), c .before .before .before .before .before .size .ensures .is, c .before .before .before .before .before .size .ensures .small))
 
 returns : tie.Need-returns
-returns c = c .pushed .ensures ∙ rw (c .before .empty .ensures, c .before .before .without .ensures, c .before .before .before .lend .ensures, whole (c .before .before .before .before .before .before))
+returns c =
+    c .pushed .ensures ∙ rw (c .before .empty .ensures, c .before .before .without .ensures, c .before .before .before .lend .ensures, whole (c .before .before .before .before .before .before))
 
 pub strip-namespace-spec : {M : Type 1} → statement M
 strip-namespace-spec =

@@ -12,10 +12,14 @@ use Rattle.names.proofs.fullname.to_full_name.Statement.{statement}
 use Rattle.names.proofs.fullname.to_full_name.Tie as tie
 
 fitting : (c : tie.After-full-of) → c .full-of .result .ok ≡ fits (full-of (category-with (λ k. c .before .before .before .args .worktree .now) (c .before .before .before .args .category)) (c .before .before .before .args .short .now))
-fitting c = made-ok (c .full-of .result) (full-of (category-with (λ k. c .before .before .before .args .worktree .now) (c .before .before .before .args .category)) (c .before .before .before .args .short .now)) (c .full-of .ensures)
+fitting c =
+    let args = c .before .before .before .args in
+    made-ok (c .full-of .result) (full-of (category-with (λ k. args .worktree .now) (args .category)) (args .short .now)) (c .full-of .ensures)
 
 is : (c : tie.After-full-of) → c .full-of .result .ok ≡ true → content (c .full-of .result .name) ≡ full-of (category-with (λ k. c .before .before .before .args .worktree .now) (c .before .before .before .args .category)) (c .before .before .before .args .short .now)
-is c = made-is (c .full-of .result) (full-of (category-with (λ k. c .before .before .before .args .worktree .now) (c .before .before .before .args .category)) (c .before .before .before .args .short .now)) (c .full-of .ensures)
+is c =
+    let args = c .before .before .before .args in
+    made-is (c .full-of .result) (full-of (category-with (λ k. args .worktree .now) (args .category)) (args .short .now)) (c .full-of .ensures)
 
 full-of-requires : tie.Need-full-of-requires
 full-of-requires c κs = search needs

@@ -16,10 +16,12 @@ unfolding strip
 returns c = rw (← c .before .starts-with .ensures, not-true (c .before .starts-with .result) (c .if1 .taken))
 
 sub-result : tie.Need-sub-result
-sub-result c = starts-length (c .before .before .before .before .args .word .now) (c .before .before .before .before .args .s .now) (sym (c .before .starts-with .ensures) ∙ not-false (c .before .starts-with .result) (c .if1 .left))
+sub-result c =
+    starts-length (c .before .before .before .before .args .word .now) (c .before .before .before .before .args .s .now) (sym (c .before .starts-with .ensures) ∙ not-false (c .before .starts-with .result) (c .if1 .left))
 
 part-result-start : tie.Need-part-result-start
-part-result-start c = starts-length (c .before .before .before .before .args .word .now) (c .before .before .before .before .args .s .now) (sym (c .before .starts-with .ensures) ∙ not-false (c .before .starts-with .result) (c .if1 .left))
+part-result-start c =
+    starts-length (c .before .before .before .before .args .word .now) (c .before .before .before .before .args .s .now) (sym (c .before .starts-with .ensures) ∙ not-false (c .before .starts-with .result) (c .if1 .left))
 
 part-result-end : tie.Need-part-result-end
 part-result-end c = search needs

@@ -2,7 +2,6 @@
 use mathlib.Core.Bool.{or-true}
 use borrow.Author.Needs.{needs}
 use borrow.Author.Tests.{not-false, not-true}
-use Rattle.names.specs.Bytes.{starts-with}
 use Rattle.names.specs.Name.{looks-full}
 use Rattle.names.proofs.name.looks_like_full_name.Statement.{statement}
 use Rattle.names.proofs.name.looks_like_full_name.Tie as tie
@@ -39,14 +38,33 @@ returns-3 c = rw (← c .before .starts-with3 .ensures, c .if3 .taken, or-true)
 
 returns-4 : tie.Need-returns-4
 unfolding looks-full
-returns-4 c = rw (← c .before .before .before .before .before .before .before .before .starts-with .ensures, c .before .before .before .before .before .before .before .if1 .left, ← c .before .before .before .before .before .starts-with2 .ensures, c .before .before .before .before .if2 .left, ← c .before .before .starts-with3 .ensures, c .before .if3 .left, not-true (c .before .before .before .before .before .before .before .before .before .before .before .args .pseudo) (c .if4 .taken))
+returns-4 c =
+    rw (
+      ← c .before .before .before .before .before .before .before .before .starts-with .ensures,
+      c .before .before .before .before .before .before .before .if1 .left,
+      ← c .before .before .before .before .before .starts-with2 .ensures,
+      c .before .before .before .before .if2 .left,
+      ← c .before .before .starts-with3 .ensures,
+      c .before .if3 .left,
+      not-true (c .before .before .before .before .before .before .before .before .before .before .before .args .pseudo) (c .if4 .taken),
+    )
 
 is-pseudo-ref-requires : tie.Need-is-pseudo-ref-requires
 is-pseudo-ref-requires c κs = search needs
 
 returns-5 : tie.Need-returns-5
 unfolding looks-full
-returns-5 c = rw (← c .before .before .before .before .before .before .before .before .before .starts-with .ensures, c .before .before .before .before .before .before .before .before .if1 .left, ← c .before .before .before .before .before .before .starts-with2 .ensures, c .before .before .before .before .before .if2 .left, ← c .before .before .before .starts-with3 .ensures, c .before .before .if3 .left, not-false (c .before .before .before .before .before .before .before .before .before .before .before .before .args .pseudo) (c .before .if4 .left), ← c .is-pseudo-ref .ensures)
+returns-5 c =
+    rw (
+      ← c .before .before .before .before .before .before .before .before .before .starts-with .ensures,
+      c .before .before .before .before .before .before .before .before .if1 .left,
+      ← c .before .before .before .before .before .before .starts-with2 .ensures,
+      c .before .before .before .before .before .if2 .left,
+      ← c .before .before .before .starts-with3 .ensures,
+      c .before .before .if3 .left,
+      not-false (c .before .before .before .before .before .before .before .before .before .before .before .before .args .pseudo) (c .before .if4 .left),
+      ← c .is-pseudo-ref .ensures,
+    )
 
 pub looks-like-full-name-spec : {M : Type 1} → statement M
 looks-like-full-name-spec =

@@ -2,8 +2,7 @@
 use mathlib.Core.Bool.{and-false}
 use borrow.Author.Needs.{needs}
 use borrow.Author.Tests.{eq-eqb, ne-eqb, not-false, not-true}
-use Rattle.names.specs.Bytes.{contains, ends-with}
-use Rattle.names.specs.WellFormed.{no-dot-begins, no-lock-ends, slashes-right, well-formed}
+use Rattle.names.specs.WellFormed.{well-formed}
 use Rattle.names.proofs.Orders.{same-nothing}
 use Rattle.names.proofs.validate.well_formed.Statement.{statement}
 use Rattle.names.proofs.validate.well_formed.Tie as tie
