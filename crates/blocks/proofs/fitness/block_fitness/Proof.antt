@@ -1,6 +1,7 @@
 use mathlib.Core.Path.{sym, _∙_}
 use borrow.Author.Tests.{not-false}
 use Rattle.blocks.specs.Block.{block-kind}
+use Rattle.blocks.specs.Means.{id-width}
 use Rattle.blocks.proofs.Flaws.{flaw-damaged, flaw-error, flaw-order}
 use borrow.Author.Needs.{needs}
 use Rattle.blocks.proofs.fitness.block_fitness.Statement.{statement}
@@ -16,7 +17,7 @@ unfit-requires : tie.Need-unfit-requires
 unfit-requires c κs = search needs
 
 returns : tie.Need-returns
-returns c = rw (← c .before .before .before .block-at .ensures .0, flaw-damaged 40 _ _ _ (sym (c .before .before .is-damaged .ensures) ∙ c .before .if1 .taken)) (c .unfit .ensures)
+returns c = rw (← c .before .before .before .block-at .ensures .0, flaw-damaged id-width _ _ _ (sym (c .before .before .is-damaged .ensures) ∙ c .before .if1 .taken)) (c .unfit .ensures)
 
 shared-slice-read-kind : tie.Need-shared-slice-read-kind
 shared-slice-read-kind c = search needs
@@ -29,11 +30,11 @@ order-fitness-requires c κs = search needs
 
 returns-2 : tie.Need-returns-2
 unfolding block-kind
-returns-2 c = rw (← c .before .before .before .before .before .block-at .ensures .0, flaw-error 40 _ _ _ (not-false _ (sym (c .before .before .before .before .is-damaged .ensures) ∙ c .before .before .before .if1 .left)) (c .before .match .keys1)) (c .unfit2 .ensures)
+returns-2 c = rw (← c .before .before .before .before .before .block-at .ensures .0, flaw-error id-width _ _ _ (not-false _ (sym (c .before .before .before .before .is-damaged .ensures) ∙ c .before .before .before .if1 .left)) (c .before .match .keys1)) (c .unfit2 .ensures)
 
 returns-3 : tie.Need-returns-3
 unfolding block-kind
-returns-3 c = rw (← c .before .before .before .before .before .block-at .ensures .0, flaw-order 40 _ _ _ (not-false _ (sym (c .before .before .before .before .is-damaged .ensures) ∙ c .before .before .before .if1 .left)) (c .before .match .rest .1), c .before .before .before .before .before .block-at .ensures .0) (c .order-fitness .ensures)
+returns-3 c = rw (← c .before .before .before .before .before .block-at .ensures .0, flaw-order id-width _ _ _ (not-false _ (sym (c .before .before .before .before .is-damaged .ensures) ∙ c .before .before .before .if1 .left)) (c .before .match .rest .1), c .before .before .before .before .before .block-at .ensures .0) (c .order-fitness .ensures)
 
 pub block-fitness-spec : {M : Type 1} → statement M
 block-fitness-spec =
