@@ -15,7 +15,7 @@ use Rattle.names.specs.WellFormed.{complete}
 use Rattle.names.proofs.Tests.{and-left, none≢some, if-case}
 use Rattle.blocks.specs.Layout.{longest-content}
 use Rattle.blocks.specs.Content.{object, symbolic, Reading, reads, unreadable, is-hex, lower-case, ends-line, skip-spaces, line, begins-hex, read-target, read-id, read}
-use Rattle.blocks.specs.Means.{id-width, id-in, is-id, parsed, name-reading, within-name}
+use Rattle.blocks.specs.Means.{id-in, is-id, parsed, name-reading, within-name}
 use Rattle.blocks.specs.declared.decode.State.{State}
 use Rattle.blocks.specs.declared.decode.State.the-variants.{Id, UnvalidatedPath, Neither}
 use Rattle.blocks.proofs.Ids.{id-whole}
@@ -70,11 +70,11 @@ module _ (width : ℕ) (s : Bytes) where
   pub read-path : UnvalidatedPath ≡ parsed width s → read width s ≡ read-target (path-of s)
   read-path e = rw (← e) at says
 
+  pub read-object : Id ≡ parsed width s → read width s ≡ reads (object (id-in width s))
+  read-object e = let h = rw (← e) at says in rw (id-whole width s (h .1)) (h .0)
+
   pub read-neither : Neither ≡ parsed width s → read width s ≡ unreadable 10
   read-neither e = rw (← e) at says
-
-pub read-object : (s : Bytes) → Id ≡ parsed id-width s → read id-width s ≡ reads (object (id-in s))
-read-object s e = let h = rw (← e) at (says id-width s) in rw (id-whole s (h .1)) (h .0)
 
 -- ---- targets
 

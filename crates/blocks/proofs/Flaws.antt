@@ -3,7 +3,7 @@ use mathlib.Core.Path.{_≡_, refl, sym, _∙_}
 use mathlib.Core.Bool.{Bool, true, false, _&&_, not, false≢true}
 use mathlib.Core.Logic.{_⊎_, ⊎-elim, inl, inr}
 use mathlib.Core.Option.{Option, none, some, Option·map}
-use Prim.Native.Nat.{ℕ, zero, suc, _+_, _-_, _≤_, _<_}
+use Prim.Native.Nat.{ℕ, zero, suc, _+_, _-_, _≤_, _<_, Ordering, Ordering·lt, Ordering·eq, Ordering·gt}
 use native.Mathlib.Numerals.{add-one}
 use native.Mathlib.Omega.{arith}
 use borrow.Author.Tests.{leb-true, eqb-false}
@@ -30,6 +30,16 @@ pub above-next : (s : Bytes) (k : ℕ) (n : Bytes) → (k ≡ 0 → ⊥) → abo
 unfolding name-before
 above-next s zero n h = absurd (h refl)
 above-next s (suc j) n h = let e : suc j - 1 ≡ j = omega arith in rw e
+
+pub eight-none : (o : Ordering) → not (is-there (eight-unless o)) ≡ true → eight-unless o ≡ none
+eight-none Ordering·lt h = refl
+eight-none Ordering·eq h = absurd (false≢true h)
+eight-none Ordering·gt h = absurd (false≢true h)
+
+pub eight-some : (o : Ordering) → not (is-there (eight-unless o)) ≡ false → eight-unless o ≡ some 8
+eight-some Ordering·lt h = absurd (false≢true (sym h))
+eight-some Ordering·eq h = refl
+eight-some Ordering·gt h = refl
 
 -- ---- one block
 

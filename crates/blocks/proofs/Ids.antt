@@ -8,7 +8,7 @@ use lib.ListN.{length, take, getD, set, replicate, length-append, length-replica
 use lib.Seq.{take-suc, take-suc-set, take-append-le}
 use Rattle.names.specs.Bytes.{Bytes}
 use Rattle.blocks.specs.Content.{lower, lower-case}
-use Rattle.blocks.specs.Means.{id-width, id-in}
+use Rattle.blocks.specs.Means.{id-in}
 
 -- zeros behind s change none of its bytes
 abbrev pub padded : ℕ → Bytes → Bytes
@@ -33,5 +33,5 @@ digit-more n s d i v h l e before =
     rw (add-one, take-suc-set d i v w, take-suc (padded n s) i 0 p, map-append, before, getD-padded n s i, e)
 
 -- an id that is all there
-pub id-whole : (s : Bytes) → id-width ≤ length s → id-in s ≡ lower-case (take id-width s)
-id-whole s h = rw (take-append-le id-width s (replicate id-width 0) h)
+pub id-whole : (width : ℕ) (s : Bytes) → width ≤ length s → id-in width s ≡ lower-case (take width s)
+id-whole width s h = rw (take-append-le width s (replicate width 0) h)

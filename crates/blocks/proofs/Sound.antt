@@ -18,7 +18,7 @@ use Rattle.blocks.specs.Content.{is-hex, lower-case}
 use Rattle.blocks.specs.Block.{Region, block-kind, content-length, block-name, block-content, layout-right, kind-suits, record-right, shape-right, sound}
 use Rattle.blocks.specs.Entry.{Entry, loose, unread, packed-record, failed, name-of, peeled-in, entry-of, entry, entries}
 use Rattle.blocks.specs.Fitness.{first-flaw}
-use Rattle.blocks.specs.Means.{id-width, block-at, block-count, name-within, content-within, taken-entry, content-in, entry-in, taken-in, id-in}
+use Rattle.blocks.specs.Means.{block-at, block-count, name-within, content-within, taken-entry, content-in, entry-in, taken-in, id-in}
 use Rattle.blocks.proofs.Sorted.{Sorted, sorted-∷, sorted, sorted-drop}
 use Rattle.blocks.proofs.Parts.{length-block}
 use Rattle.blocks.proofs.Ids.{id-whole}
@@ -113,19 +113,20 @@ module _ (width : ℕ) (r : Region) (s : Bytes) (k : ℕ) where
       go false u = none≢some (entry-past width r s k (ltb-false k (block-count s) u) ∙ h)
 
 -- the ids that are read off the content, in lower case
-pub target-id : (c t : Bytes) (p : Option Bytes) → Ids id-width c t p → id-in c ≡ lower-case t
-target-id c t p h = rw (h .target) (id-whole c (⊎-elim (λ e. omega arith) (λ e. omega arith) (h .size)))
+module _ (width : ℕ) (c t : Bytes) where
+  pub target-id : (p : Option Bytes) → Ids width c t p → id-in width c ≡ lower-case t
+  target-id p h = rw (h .target) (id-whole width c (⊎-elim (λ e. omega arith) (λ e. omega arith) (h .size)))
 
-pub peeled-id : (c t q : Bytes) → Ids id-width c t (some q) → id-in (drop id-width c) ≡ lower-case q
-peeled-id c t q h = go (leb (length c) id-width) refl
-  where
-    some-bytes : {x y : Bytes} → some x ≡ some y → x ≡ y
-    some-bytes e = cc
+  pub peeled-id : (q : Bytes) → Ids width c t (some q) → id-in width (drop width c) ≡ lower-case q
+  peeled-id q h = go (leb (length c) width) refl
+    where
+      some-bytes : {x y : Bytes} → some x ≡ some y → x ≡ y
+      some-bytes e = cc
 
-    go : (u : Bool) → leb (length c) id-width ≡ u → id-in (drop id-width c) ≡ lower-case q
-    go true u = none≢some (sym (rw u at (h .peeled)))
-    go false u =
-        let more = leb-false (length c) id-width u in
-        let two : length (drop id-width c) ≡ id-width = simp length-drop (⊎-elim (λ e. omega arith) (λ e. omega arith) (h .size)) in
-        let e : q ≡ drop id-width c = some-bytes (rw u at (h .peeled)) in
-        rw (e, id-whole (drop id-width c) (omega arith), take-all id-width (drop id-width c) (omega arith))
+      go : (u : Bool) → leb (length c) width ≡ u → id-in width (drop width c) ≡ lower-case q
+      go true u = none≢some (sym (rw u at (h .peeled)))
+      go false u =
+          let more = leb-false (length c) width u in
+          let two : length (drop width c) ≡ width = simp length-drop (⊎-elim (λ e. omega arith) (λ e. omega arith) (h .size)) in
+          let e : q ≡ drop width c = some-bytes (rw u at (h .peeled)) in
+          rw (e, id-whole width (drop width c) (omega arith), take-all width (drop width c) (omega arith))

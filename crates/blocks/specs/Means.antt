@@ -111,8 +111,8 @@ name-before s (suc i) = some (name-within (block-at s i))
 -- ---- ids
 
 -- the id that s begins with, zeros following where s is shorter
-abbrev pub id-in : Bytes → Bytes
-id-in s = lower-case (take id-width (s ++ replicate id-width 0))
+abbrev pub id-in : ℕ → Bytes → Bytes
+id-in width s = lower-case (take width (s ++ replicate width 0))
 
 abbrev pub begins-with-id : ℕ → Bytes → Bool
 begins-with-id width s = leb width (length s) && every is-hex (take width s)

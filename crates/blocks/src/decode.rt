@@ -139,7 +139,7 @@ fn refused(why: Refusal) -> Target
 }
 
 fn object(s: &[u8]) -> Target
-    ensures { λ r. ⌜ reading-of r ≡ reads (object (id-in (now (s .entry)))) ⌝ }
+    ensures { λ r. ⌜ reading-of r ≡ reads (object (id-in id-width (now (s .entry)))) ⌝ }
 {
     let id = id_of(s);
     let name = empty();

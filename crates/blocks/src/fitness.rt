@@ -1,11 +1,13 @@
 // Sizes and fitness for search of a snapshot's regions.
 ghost use mathlib.Core.Path.{_≡_};
 ghost use mathlib.Core.Bool.{not};
+ghost use mathlib.Core.Option.{some};
 ghost use Prim.Native.Nat.{_<_};
+ghost use Rattle.names.specs.Means.{ordering};
 ghost use Rattle.blocks.specs.Entry.{entry, entries};
-ghost use Rattle.blocks.specs.Fitness.{whole, not-too-many, above, flaw, first-flaw};
+ghost use Rattle.blocks.specs.Fitness.{whole, not-too-many, eight-unless, above, flaw, first-flaw};
 ghost use Rattle.blocks.specs.Snapshot.{or-empty, is-there, size-check, store, store-flaw};
-ghost use Rattle.blocks.specs.Means.{id-width, region-of, block-count, block-at, name-within, name-before, if-there, snapshot-of, sizes-check, three, flaw-of, flaw-at};
+ghost use Rattle.blocks.specs.Means.{id-width, region-of, block-count, block-at, name-within, name-before, if-there, snapshot-of, sizes-check, three, reason-number, flaw-of, flaw-at};
 use crate::block::BLOCK_SIZE;
 use crate::block::KIND_AT;
 use crate::block::MOST_BLOCKS;
@@ -112,6 +114,27 @@ pub fn is_fit(v: Verdict) -> bool
     }
 }
 
+fn unfit(reason: Reason, region: Region, block: usize) -> Verdict
+    ensures { λ v. ⌜ flaw-of v ≡ flaw-at (some (reason-number reason)) (region-of region) block ⌝ }
+{
+    Verdict::Unfit {
+        reason,
+        region,
+        block,
+    }
+}
+
+// Whether the first of two names is below the second.
+fn is_below(o: Order) -> bool
+    ensures { λ r. ⌜ r ≡ not (is-there (eight-unless (ordering o))) ⌝ }
+{
+    match o {
+        Order::Less => true,
+        Order::Equal => false,
+        Order::Greater => false,
+    }
+}
+
 // Whether the name of block k is above the one before.
 fn order_fitness(s: &[u8], region: Region, k: usize) -> Verdict
     requires { ⌜ k < block-count (now s) ⌝ }
@@ -122,20 +145,10 @@ fn order_fitness(s: &[u8], region: Region, k: usize) -> Verdict
     }
     let before = name_part(block_at(s, k - 1));
     let name = name_part(block_at(s, k));
-    let o = compare(before, name);
-    match o {
-        Order::Less => Verdict::Fit,
-        Order::Equal => Verdict::Unfit {
-            reason: Reason::NotAbove,
-            region,
-            block: k,
-        },
-        Order::Greater => Verdict::Unfit {
-            reason: Reason::NotAbove,
-            region,
-            block: k,
-        },
+    if is_below(compare(before, name)) {
+        return Verdict::Fit;
     }
+    unfit(Reason::NotAbove, region, k)
 }
 
 // What is wrong with block k, if anything is.
@@ -145,19 +158,11 @@ fn block_fitness(s: &[u8], region: Region, k: usize) -> Verdict
 {
     let b = block_at(s, k);
     if is_damaged(b, region) {
-        return Verdict::Unfit {
-            reason: Reason::Damaged,
-            region,
-            block: k,
-        };
+        return unfit(Reason::Damaged, region, k);
     }
     let kind = b[KIND_AT];
     match kind {
-        WALK_ERROR | PACKED_ERROR => Verdict::Unfit {
-            reason: Reason::ErrorKind,
-            region,
-            block: k,
-        },
+        WALK_ERROR | PACKED_ERROR => unfit(Reason::ErrorKind, region, k),
         _ => order_fitness(s, region, k),
     }
 }

@@ -54,7 +54,7 @@ fn byte_or_zero(s: &[u8], i: usize) -> u8
 
 // The id that s begins with. Where s is shorter, zeros follow.
 pub fn id_of(s: &[u8]) -> Id
-    ensures { λ r. ⌜ r .digits ≡ id-in (now (s .entry)) ⌝ }
+    ensures { λ r. ⌜ r .digits ≡ id-in id-width (now (s .entry)) ⌝ }
 {
     let mut d: [u8; ID_WIDTH] = [0; ID_WIDTH];
     let mut i: usize = 0;
@@ -77,7 +77,7 @@ pub fn hex_hash(s: &[u8]) -> bool
 
 // The id that stands behind the first.
 pub fn second_id_of(s: &[u8]) -> Id
-    ensures { λ r. ⌜ r .digits ≡ id-in (drop id-width (now (s .entry))) ⌝ }
+    ensures { λ r. ⌜ r .digits ≡ id-in id-width (drop id-width (now (s .entry))) ⌝ }
 {
     if s.len() < ID_WIDTH {
         return id_of(&s[0..0]);

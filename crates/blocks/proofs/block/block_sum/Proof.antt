@@ -30,7 +30,7 @@ half-requires c κs = search needs
 
 mul-p : tie.Need-mul-p Inv-loop μ-loop
 mul-p c =
-    let hp = product-le 254 (c .before .before .before .loop .k) (c .half .result) (c .before .before .loop-test .taken) (c .half .ensures .1) in
+    let hp = product-le 254 (c .before .before .before .loop .k) (c .half .result) (omega arith) (c .half .ensures .1) in
     omega arith
 
 add-half : tie.Need-add-half Inv-loop μ-loop
@@ -44,7 +44,7 @@ half-requires-2 c κs = search needs
 
 mul-q : tie.Need-mul-q Inv-loop μ-loop
 mul-q c =
-    let hq = product-le 254 (c .before .before .before .before .before .loop .k) (c .half2 .result) (c .before .before .before .before .loop-test .taken) (c .half2 .ensures .1) in
+    let hq = product-le 254 (c .before .before .before .before .before .loop .k) (c .half2 .result) (omega arith) (c .half2 .ensures .1) in
     omega arith
 
 full-requires : tie.Need-full-requires Inv-loop μ-loop
@@ -56,15 +56,15 @@ full-requires-2 c κs = search needs
 add-s : tie.Need-add-s Inv-loop μ-loop
 add-s c =
     let at = c .before .before .before .before .before .before in
-    let hp = product-le 254 (at .before .loop .k) (c .before .before .before .before .half .result) (at .loop-test .taken) (c .before .before .before .before .half .ensures .1) in
-    let hq = product-le 254 (at .before .loop .k) (c .before .before .half2 .result) (at .loop-test .taken) (c .before .before .half2 .ensures .1) in
+    let hp = product-le 254 (at .before .loop .k) (c .before .before .before .before .half .result) (omega arith) (c .before .before .before .before .half .ensures .1) in
+    let hq = product-le 254 (at .before .loop .k) (c .before .before .half2 .result) (omega arith) (c .before .before .half2 .ensures .1) in
     omega arith
 
 add-s-2 : tie.Need-add-s-2 Inv-loop μ-loop
 add-s-2 c =
     let at = c .before .before .before .before .before .before in
-    let hp = product-le 254 (at .before .loop .k) (c .before .before .before .before .half .result) (at .loop-test .taken) (c .before .before .before .before .half .ensures .1) in
-    let hq = product-le 254 (at .before .loop .k) (c .before .before .half2 .result) (at .loop-test .taken) (c .before .before .half2 .ensures .1) in
+    let hp = product-le 254 (at .before .loop .k) (c .before .before .before .before .half .result) (omega arith) (c .before .before .before .before .half .ensures .1) in
+    let hq = product-le 254 (at .before .loop .k) (c .before .before .half2 .result) (omega arith) (c .before .before .half2 .ensures .1) in
     omega arith
 
 add-wide : tie.Need-add-wide Inv-loop μ-loop
@@ -92,8 +92,8 @@ loop-again c =
     let b = at .before .before .before .args .b .now in
     let first = c .before .before .before .before .before .before .half in
     let second = c .before .before .before .before .half2 in
-    let hp = product-le 254 k (first .result) (at .loop-test .taken) (first .ensures .1) in
-    let hq = product-le 254 k (second .result) (at .loop-test .taken) (second .ensures .1) in
+    let hp = product-le 254 k (first .result) (omega arith) (first .ensures .1) in
+    let hq = product-le 254 k (second .result) (omega arith) (second .ensures .1) in
     let p = c .before .before .before .full .ensures ∙ ap (λ (n : ℕ). (k + 1) * n) (first .ensures .0) in
     let q = c .before .before .full2 .ensures ∙ ap (λ (n : ℕ). (k + 1) * n) (second .ensures .0) in
     let m = weighted-more b k (omega arith) in

@@ -1,5 +1,6 @@
 use mathlib.Core.Path.{sym, _∙_}
 use borrow.Author.Tests.{not-true, not-false}
+use Rattle.blocks.specs.Means.{id-width}
 use Rattle.blocks.proofs.Parts.{name-held, content-held}
 use Rattle.blocks.proofs.Clauses.{record-length, record-digits, record-name}
 use borrow.Author.Needs.{needs}
@@ -13,7 +14,7 @@ is-id-length-requires : tie.Need-is-id-length-requires
 is-id-length-requires c κs = search needs
 
 returns : tie.Need-returns
-returns c = record-length 40 _ (rw (← c .before .before .content-len .ensures .0) (sym (c .before .is-id-length .ensures) ∙ not-true _ (c .if1 .taken)))
+returns c = record-length id-width _ (rw (← c .before .before .content-len .ensures .0) (sym (c .before .is-id-length .ensures) ∙ not-true _ (c .if1 .taken)))
 
 content-part-requires : tie.Need-content-part-requires
 content-part-requires c κs = search needs
@@ -22,7 +23,7 @@ all-hex-requires : tie.Need-all-hex-requires
 all-hex-requires c κs = search needs
 
 returns-2 : tie.Need-returns-2
-returns-2 c = record-digits 40 (c .before .before .before .before .before .before .before .args .b .now) (rw (← content-held (c .before .before .before .before .before .before .before .args .b .now) (c .before .before .before .before .before .before .before .pre .content), ← c .before .before .content-part .ensures) (sym (c .before .all-hex .ensures) ∙ not-true _ (c .if2 .taken)))
+returns-2 c = record-digits id-width (c .before .before .before .before .before .before .before .args .b .now) (rw (← content-held (c .before .before .before .before .before .before .before .args .b .now) (c .before .before .before .before .before .before .before .pre .content), ← c .before .before .content-part .ensures) (sym (c .before .all-hex .ensures) ∙ not-true _ (c .if2 .taken)))
 
 name-part-requires : tie.Need-name-part-requires
 name-part-requires c κs = search needs
@@ -32,7 +33,7 @@ well-formed-requires c κs = search needs
 
 returns-3 : tie.Need-returns-3
 returns-3 c =
-    rw (c .well-formed .ensures, c .before .name-part .ensures, name-held (c .before .before .before .before .before .before .before .before .before .args .b .now) (c .before .before .before .before .before .before .before .before .before .pre .name)) (record-name 40 (c .before .before .before .before .before .before .before .before .before .args .b .now) (rw (← c .before .before .before .before .before .before .before .content-len .ensures .0) (sym (c .before .before .before .before .before .before .is-id-length .ensures) ∙ not-false _ (c .before .before .before .before .before .if1 .left))) (rw (← content-held (c .before .before .before .before .before .before .before .before .before .args .b .now) (c .before .before .before .before .before .before .before .before .before .pre .content), ← c .before .before .before .before .content-part .ensures) (sym (c .before .before .before .all-hex .ensures) ∙ not-false _ (c .before .before .if2 .left))))
+    rw (c .well-formed .ensures, c .before .name-part .ensures, name-held (c .before .before .before .before .before .before .before .before .before .args .b .now) (c .before .before .before .before .before .before .before .before .before .pre .name)) (record-name id-width (c .before .before .before .before .before .before .before .before .before .args .b .now) (rw (← c .before .before .before .before .before .before .before .content-len .ensures .0) (sym (c .before .before .before .before .before .before .is-id-length .ensures) ∙ not-false _ (c .before .before .before .before .before .if1 .left))) (rw (← content-held (c .before .before .before .before .before .before .before .before .before .args .b .now) (c .before .before .before .before .before .before .before .before .before .pre .content), ← c .before .before .before .before .content-part .ensures) (sym (c .before .before .before .all-hex .ensures) ∙ not-false _ (c .before .before .if2 .left))))
 
 pub record-right-spec : {M : Type 1} → statement M
 record-right-spec =

@@ -1,4 +1,5 @@
 use Rattle.blocks.specs.Block.{block-kind}
+use Rattle.blocks.specs.Means.{id-width}
 use Rattle.blocks.proofs.Clauses.{shape-unread, shape-error, shape-record, shape-other}
 use borrow.Author.Needs.{needs}
 use Rattle.blocks.proofs.block.shape_right.Statement.{statement}
@@ -24,19 +25,19 @@ record-right-requires c κs = search needs
 
 returns : tie.Need-returns
 unfolding block-kind
-returns c = rw (shape-unread 40 (c .before .before .before .before .args .b .now) (c .before .match .keys1), c .content-len .ensures .0)
+returns c = rw (shape-unread id-width (c .before .before .before .before .args .b .now) (c .before .match .keys1), c .content-len .ensures .0)
 
 returns-2 : tie.Need-returns-2
 unfolding block-kind
-returns-2 c = rw (shape-error 40 (c .before .before .before .before .before .args .b .now) (c .before .before .match .keys2), c .before .name-len .ensures .0, c .content-len2 .ensures .0)
+returns-2 c = rw (shape-error id-width (c .before .before .before .before .before .args .b .now) (c .before .before .match .keys2), c .before .name-len .ensures .0, c .content-len2 .ensures .0)
 
 returns-3 : tie.Need-returns-3
 unfolding block-kind
-returns-3 c = rw (shape-record 40 (c .before .before .before .before .args .b .now) (c .before .match .keys3)) (c .record-right .ensures)
+returns-3 c = rw (shape-record id-width (c .before .before .before .before .args .b .now) (c .before .match .keys3)) (c .record-right .ensures)
 
 returns-4 : tie.Need-returns-4
 unfolding block-kind
-returns-4 c = shape-other 40 _ (c .match .rest .0 .0 .1) (c .match .rest .0 .1) (c .match .rest .1)
+returns-4 c = shape-other id-width _ (c .match .rest .0 .0 .1) (c .match .rest .0 .1) (c .match .rest .1)
 
 pub shape-right-spec : {M : Type 1} → statement M
 shape-right-spec =

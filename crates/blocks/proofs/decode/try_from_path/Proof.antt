@@ -1,4 +1,5 @@
 use mathlib.Core.Path.{sym, _∙_}
+use Rattle.blocks.specs.Means.{id-width}
 use Rattle.blocks.proofs.Contents.{read-path, read-object, read-neither}
 use borrow.Author.Needs.{needs}
 use Rattle.blocks.proofs.decode.try_from_path.Statement.{statement}
@@ -29,13 +30,13 @@ refused-requires : tie.Need-refused-requires
 refused-requires c κs = search needs
 
 returns : tie.Need-returns
-returns c = rw (read-path 40 (c .before .before .before .before .before .before .args .s .now) (sym (c .before .before .enum-told .given .1) ∙ c .before .before .before .before .parse .ensures), ← c .before .path .ensures) (c .validated .ensures)
+returns c = rw (read-path id-width (c .before .before .before .before .before .before .args .s .now) (sym (c .before .before .enum-told .given .1) ∙ c .before .before .before .before .parse .ensures), ← c .before .path .ensures) (c .validated .ensures)
 
 returns-2 : tie.Need-returns-2
-returns-2 c = rw (read-object (c .before .before .before .before .before .args .s .now) (sym (c .before .enum-told2 .given .1) ∙ c .before .before .before .parse .ensures)) (c .object .ensures)
+returns-2 c = rw (read-object id-width (c .before .before .before .before .before .args .s .now) (sym (c .before .enum-told2 .given .1) ∙ c .before .before .before .parse .ensures)) (c .object .ensures)
 
 returns-3 : tie.Need-returns-3
-returns-3 c = rw (read-neither 40 (c .before .before .before .before .before .args .s .now) (sym (c .before .enum-told3 .given .1) ∙ c .before .before .before .parse .ensures)) (c .refused .ensures)
+returns-3 c = rw (read-neither id-width (c .before .before .before .before .before .args .s .now) (sym (c .before .enum-told3 .given .1) ∙ c .before .before .before .parse .ensures)) (c .refused .ensures)
 
 pub try-from-path-spec : {M : Type 1} → statement M
 try-from-path-spec =

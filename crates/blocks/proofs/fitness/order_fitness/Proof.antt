@@ -1,5 +1,6 @@
-use Rattle.blocks.proofs.Flaws.{above-first, above-next}
+use mathlib.Core.Path.{sym, _∙_}
 use Rattle.blocks.specs.Means.{name-within, block-at}
+use Rattle.blocks.proofs.Flaws.{above-first, above-next, eight-none, eight-some}
 use borrow.Author.Needs.{needs}
 use Rattle.blocks.proofs.fitness.order_fitness.Statement.{statement}
 use Rattle.blocks.proofs.fitness.order_fitness.Tie as tie
@@ -25,32 +26,23 @@ name-part-requires-2 c κs = search needs
 compare-requires : tie.Need-compare-requires
 compare-requires c κs = search needs
 
-enum-told : tie.Need-enum-told
-enum-told c = search needs
-
-enum-told-2 : tie.Need-enum-told-2
-enum-told-2 c = search needs
-
-enum-told-3 : tie.Need-enum-told-3
-enum-told-3 c = search needs
+is-below-requires : tie.Need-is-below-requires
+is-below-requires c κs = search needs
 
 returns-2 : tie.Need-returns-2
 returns-2 c =
     let s = c .before .before .before .before .before .before .before .before .before .args .s .now in
     let k = c .before .before .before .before .before .before .before .before .before .args .k in
-    rw (above-next s k (name-within (block-at s k)) (c .before .before .before .before .before .before .before .if1 .left), ← c .before .before .before .before .before .before .block-at .ensures .0, ← c .before .before .before .before .before .name-part .ensures, ← c .before .before .before .before .block-at2 .ensures .0, ← c .before .before .before .name-part2 .ensures, ← c .before .before .compare .ensures, c .enum-told .given .1)
+    rw (above-next s k (name-within (block-at s k)) (c .before .before .before .before .before .before .before .if1 .left), ← c .before .before .before .before .before .before .block-at .ensures .0, ← c .before .before .before .before .before .name-part .ensures, ← c .before .before .before .before .block-at2 .ensures .0, ← c .before .before .before .name-part2 .ensures, ← c .before .before .compare .ensures, eight-none _ (sym (c .before .is-below .ensures) ∙ c .if2 .taken))
+
+unfit-requires : tie.Need-unfit-requires
+unfit-requires c κs = search needs
 
 returns-3 : tie.Need-returns-3
 returns-3 c =
-    let s = c .before .before .before .before .before .before .before .before .before .args .s .now in
-    let k = c .before .before .before .before .before .before .before .before .before .args .k in
-    rw (above-next s k (name-within (block-at s k)) (c .before .before .before .before .before .before .before .if1 .left), ← c .before .before .before .before .before .before .block-at .ensures .0, ← c .before .before .before .before .before .name-part .ensures, ← c .before .before .before .before .block-at2 .ensures .0, ← c .before .before .before .name-part2 .ensures, ← c .before .before .compare .ensures, c .enum-told2 .given .1)
-
-returns-4 : tie.Need-returns-4
-returns-4 c =
-    let s = c .before .before .before .before .before .before .before .before .before .args .s .now in
-    let k = c .before .before .before .before .before .before .before .before .before .args .k in
-    rw (above-next s k (name-within (block-at s k)) (c .before .before .before .before .before .before .before .if1 .left), ← c .before .before .before .before .before .before .block-at .ensures .0, ← c .before .before .before .before .before .name-part .ensures, ← c .before .before .before .before .block-at2 .ensures .0, ← c .before .before .before .name-part2 .ensures, ← c .before .before .compare .ensures, c .enum-told3 .given .1)
+    let s = c .before .before .before .before .before .before .before .before .before .before .args .s .now in
+    let k = c .before .before .before .before .before .before .before .before .before .before .args .k in
+    rw (above-next s k (name-within (block-at s k)) (c .before .before .before .before .before .before .before .before .if1 .left), ← c .before .before .before .before .before .before .before .block-at .ensures .0, ← c .before .before .before .before .before .before .name-part .ensures, ← c .before .before .before .before .before .block-at2 .ensures .0, ← c .before .before .before .before .name-part2 .ensures, ← c .before .before .before .compare .ensures, eight-some _ (sym (c .before .before .is-below .ensures) ∙ c .before .if2 .left)) (c .unfit .ensures)
 
 pub order-fitness-spec : {M : Type 1} → statement M
 order-fitness-spec =
@@ -63,9 +55,7 @@ order-fitness-spec =
     block-at-requires-2
     name-part-requires-2
     compare-requires
-    enum-told
-    enum-told-2
-    enum-told-3
+    is-below-requires
     returns-2
-    returns-3
-    returns-4)
+    unfit-requires
+    returns-3)

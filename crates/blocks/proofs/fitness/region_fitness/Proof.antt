@@ -4,7 +4,7 @@ use lib.ListN.{drop}
 use borrow.Author.Tests.{not-true, not-false}
 use Rattle.blocks.specs.Entry.{entries}
 use Rattle.blocks.specs.Fitness.{first-flaw, flaw-from}
-use Rattle.blocks.specs.Means.{region-of, name-before}
+use Rattle.blocks.specs.Means.{id-width, region-of, name-before}
 use Rattle.blocks.proofs.Flaws.{scan-start, scan-stop, scan-more, scan-end}
 use native.Mathlib.Omega.{arith}
 use borrow.Author.Needs.{needs}
@@ -12,13 +12,13 @@ use Rattle.blocks.proofs.fitness.region_fitness.Statement.{statement}
 use Rattle.blocks.proofs.fitness.region_fitness.Tie as tie
 
 abbrev Inv-loop : tie.InvT-loop
-Inv-loop s region n k₀ k = (k ≤ n) × (first-flaw (region-of region) (entries 40 (region-of region) s) ≡ flaw-from (region-of region) (name-before s k) k (drop k (entries 40 (region-of region) s)))
+Inv-loop s region n k₀ k = (k ≤ n) × (first-flaw (region-of region) (entries id-width (region-of region) s) ≡ flaw-from (region-of region) (name-before s k) k (drop k (entries id-width (region-of region) s)))
 
 abbrev μ-loop : tie.MeasureT-loop
 μ-loop s region n k₀ k = n - k
 
 loop-holds : tie.Need-loop-holds Inv-loop μ-loop
-loop-holds c = (omega arith, scan-start 40 _ _)
+loop-holds c = (omega arith, scan-start id-width _ _)
 
 block-fitness-requires : tie.Need-block-fitness-requires Inv-loop μ-loop
 block-fitness-requires c κs = search needs
@@ -28,7 +28,7 @@ is-fit-requires c κs = search needs
 
 returns : tie.Need-returns Inv-loop μ-loop
 returns c =
-    rw (c .before .before .before .before .loop .inv .1, c .before .before .block-fitness .ensures) (sym (scan-stop 40 _ _ _ (c .before .before .before .loop-test .taken) (rw (← c .before .before .block-fitness .ensures) (not-false _ (sym (c .before .is-fit .ensures) ∙ not-true _ (c .if1 .taken))))))
+    rw (c .before .before .before .before .loop .inv .1, c .before .before .block-fitness .ensures) (sym (scan-stop id-width _ _ _ (c .before .before .before .loop-test .taken) (rw (← c .before .before .block-fitness .ensures) (not-false _ (sym (c .before .is-fit .ensures) ∙ not-true _ (c .if1 .taken))))))
 
 add-k : tie.Need-add-k Inv-loop μ-loop
 add-k c = search needs
@@ -37,10 +37,10 @@ loop-less : tie.Need-loop-less Inv-loop μ-loop
 loop-less c = search needs
 
 loop-again : tie.Need-loop-again Inv-loop μ-loop
-loop-again c = (omega arith, c .before .before .before .before .loop .inv .1 ∙ scan-more 40 _ _ _ (c .before .before .before .loop-test .taken) (rw (← c .before .before .block-fitness .ensures) (not-true _ (sym (c .before .is-fit .ensures) ∙ not-false _ (c .if1 .left)))))
+loop-again c = (omega arith, c .before .before .before .before .loop .inv .1 ∙ scan-more id-width _ _ _ (c .before .before .before .loop-test .taken) (rw (← c .before .before .block-fitness .ensures) (not-true _ (sym (c .before .is-fit .ensures) ∙ not-false _ (c .if1 .left)))))
 
 returns-2 : tie.Need-returns-2 Inv-loop μ-loop
-returns-2 c = rw (c .before .loop .inv .1) (sym (scan-end 40 _ _ _ (c .loop-test .left)))
+returns-2 c = rw (c .before .loop .inv .1) (sym (scan-end id-width _ _ _ (c .loop-test .left)))
 
 pub region-fitness-spec : {M : Type 1} → statement M
 region-fitness-spec =

@@ -1,5 +1,6 @@
 use borrow.Author.Tests.{le-leb, lt-leb}
 use borrow.Author.Needs.{needs}
+use Rattle.blocks.specs.Means.{id-width}
 use Rattle.blocks.proofs.parse.hex_hash.Statement.{statement}
 use Rattle.blocks.proofs.parse.hex_hash.Tie as tie
 
@@ -19,7 +20,7 @@ all-hex-requires : tie.Need-all-hex-requires
 all-hex-requires c κs = search needs
 
 returns-2 : tie.Need-returns-2
-returns-2 c = rw (le-leb 40 _ (c .before .before .if1 .left)) (c .all-hex .ensures)
+returns-2 c = rw (le-leb id-width _ (c .before .before .if1 .left)) (c .all-hex .ensures)
 
 pub hex-hash-spec : {M : Type 1} → statement M
 hex-hash-spec =

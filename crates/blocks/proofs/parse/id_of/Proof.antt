@@ -3,6 +3,7 @@ use Prim.Native.Nat.{ℕ, _≤_, _-_}
 use mathlib.Core.Path.{ap, _≡_, sym, _∙_}
 use lib.ListN.{length-set, length, take}
 use lib.Seq.{take-all}
+use Rattle.blocks.specs.Means.{id-width}
 use Rattle.blocks.proofs.Ids.{padded, digit-more}
 use native.Mathlib.Omega.{arith}
 use borrow.Author.Needs.{needs}
@@ -10,10 +11,10 @@ use Rattle.blocks.proofs.parse.id_of.Statement.{statement}
 use Rattle.blocks.proofs.parse.id_of.Tie as tie
 
 abbrev Inv-loop : tie.InvT-loop
-Inv-loop s d₀ i₀ d i = (i ≤ 40) × (length d ≡ 40) × (take i d ≡ lower-case (take i (padded 40 s)))
+Inv-loop s d₀ i₀ d i = (i ≤ id-width) × (length d ≡ id-width) × (take i d ≡ lower-case (take i (padded id-width s)))
 
 abbrev μ-loop : tie.MeasureT-loop
-μ-loop s d₀ i₀ d i = 40 - i
+μ-loop s d₀ i₀ d i = id-width - i
 
 loop-holds : tie.Need-loop-holds Inv-loop μ-loop
 loop-holds c = search needs
@@ -39,15 +40,15 @@ loop-again c =
     let at = c .before .before .before .loop in (
       omega arith,
       simp length-set (at .inv .1),
-      digit-more 40 s (at .d) (at .i) (c .lower .result) (c .before .before .loop-test .taken) (at .inv .1) (c .lower .ensures ∙ ap (λ (x : ℕ). lower x) (c .before .byte-or-zero .ensures)) (at .inv .2),
+      digit-more id-width s (at .d) (at .i) (c .lower .result) (c .before .before .loop-test .taken) (at .inv .1) (c .lower .ensures ∙ ap (λ (x : ℕ). lower x) (c .before .byte-or-zero .ensures)) (at .inv .2),
     )
 
 returns : tie.Need-returns Inv-loop μ-loop
 returns c =
     let at = c .before .loop in
-    let e : at .i ≡ 40 = omega arith in
+    let e : at .i ≡ id-width = omega arith in
     let h = rw e at (at .inv .2) in
-    sym (take-all 40 (at .d) (omega arith)) ∙ h
+    sym (take-all id-width (at .d) (omega arith)) ∙ h
 
 pub id-of-spec : {M : Type 1} → statement M
 id-of-spec =

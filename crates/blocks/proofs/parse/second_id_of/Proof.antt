@@ -1,5 +1,6 @@
 use lib.ListN.{drop-of-length-le, length}
 use Prim.Native.Nat.{_≤_}
+use Rattle.blocks.specs.Means.{id-width}
 use Rattle.blocks.proofs.Parts.{rest-is}
 use native.Mathlib.Omega.{arith}
 use borrow.Author.Needs.{needs}
@@ -20,7 +21,7 @@ id-of-requires c κs = search needs
 
 returns : tie.Need-returns
 returns c =
-    let h : length (c .before .before .before .before .args .s .now) ≤ 40 = omega arith in
+    let h : length (c .before .before .before .before .args .s .now) ≤ id-width = omega arith in
     rw (drop-of-length-le (c .before .before .before .before .args .s .now) h) (c .id-of .ensures)
 
 sub-id-of-2 : tie.Need-sub-id-of-2
@@ -36,7 +37,7 @@ id-of-requires-2 : tie.Need-id-of-requires-2
 id-of-requires-2 c κs = search needs
 
 returns-2 : tie.Need-returns-2
-returns-2 c = rw (← rest-is (c .before .before .before .before .args .s .now) 40) (c .id-of2 .ensures)
+returns-2 c = rw (← rest-is (c .before .before .before .before .args .s .now) id-width) (c .id-of2 .ensures)
 
 pub second-id-of-spec : {M : Type 1} → statement M
 second-id-of-spec =
