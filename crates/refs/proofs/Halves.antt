@@ -65,9 +65,12 @@ module _ (p s : Bytes) where
             rw (entries-at id-width r s mid within) (above p (name-in s mid) (rw (entries-at id-width r s mid within) at t) (there r f) e)
 
     pub bracket-found : order (name-in s mid) p ≡ Ordering·eq → IndexOf p s (At mid)
-    bracket-found e r f =
-        rw (entries-at id-width r s mid within)
-        (here p (region-sorted r s f) mid _ _ (entries-at id-width r s mid within) (there r f ∙ ap some (order-eq (name-in s mid) p e)))
+    bracket-found e =
+        record {
+          is = λ r f. rw (entries-at id-width r s mid within) (here p (region-sorted r s f) mid _ _ (entries-at id-width r s mid within) (there r f ∙ ap some (order-eq (name-in s mid) p e)));
+          inside = within;
+        }
 
   pub bracket-none : (lo hi : ℕ) → Bracket p s lo hi → hi ≤ lo → IndexOf p s Nothing
-  bracket-none lo hi b h r f = let q : lo ≡ hi = omega (arith, b .lo-le) in sym (b .low r f ∙ rw q (b .high r f))
+  bracket-none lo hi b h =
+      record { is = λ r f. let q : lo ≡ hi = omega (arith, b .lo-le) in sym (b .low r f ∙ rw q (b .high r f)); inside = tt }

@@ -37,16 +37,16 @@ module _ (r : Region) (s : Bytes) (k : ℕ) (kind : EntryKind) (name c n : Bytes
   said-ids : (p : Option Bytes) → as-entry id-width kind (name-in s k) (content-in s k) ≡ some (packed-record (name-in s k) (take id-width (content-in s k)) p) → Ids id-width c (take id-width (content-in s k)) p
   said-ids p e = rw (b .content-is) (record-ids id-width r s k (name-in s k) (take id-width (content-in s k)) p (sym (b .entry-is) ∙ e))
 
-  pub said-record : kind ≡ Record → (a : Answer) → a ≡ found (record { name = name; target = object (id-in c); peeled = none }) → a ≡ says-at n (entry-in id-width r s k)
+  pub said-record : kind ≡ Record → (a : Answer) → a ≡ found (record { name = name; target = object (id-in id-width c); peeled = none }) → a ≡ says-at n (entry-in id-width r s k)
   said-record e a h =
       let i = said-ids none (rw e) in
-      said a (h ∙ rw (e, target-id c (take id-width (content-in s k)) none i, b .content-is))
+      said a (h ∙ rw (e, target-id id-width c (take id-width (content-in s k)) none i, b .content-is))
 
-  pub said-peeled : kind ≡ PeeledRecord → (a : Answer) → a ≡ found (record { name = name; target = object (id-in c); peeled = some (id-in (drop id-width c)) }) → a ≡ says-at n (entry-in id-width r s k)
+  pub said-peeled : kind ≡ PeeledRecord → (a : Answer) → a ≡ found (record { name = name; target = object (id-in id-width c); peeled = some (id-in id-width (drop id-width c)) }) → a ≡ says-at n (entry-in id-width r s k)
   said-peeled e a h =
       let q = drop id-width (content-in s k) in
       let i = said-ids (some q) (rw e) in
-      said a (h ∙ rw (e, target-id c (take id-width (content-in s k)) (some q) i, peeled-id c (take id-width (content-in s k)) q i, b .content-is))
+      said a (h ∙ rw (e, target-id id-width c (take id-width (content-in s k)) (some q) i, peeled-id id-width c (take id-width (content-in s k)) q i, b .content-is))
 
 -- ---- names and contents of blocks are short enough
 

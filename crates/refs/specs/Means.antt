@@ -1,6 +1,6 @@
 -- What the code's types mean, and what its parts promise of regions.
 use mathlib.Core.Path.{_≡_}
-use Prim.Native.Nat.{ℕ}
+use Prim.Native.Nat.{ℕ, _<_}
 use mathlib.Core.List.{List}
 use mathlib.Core.Bool.{Bool}
 use mathlib.Core.Option.{Option, none, some}
@@ -11,9 +11,9 @@ use Rattle.blocks.specs.Content.{Target, object, symbolic}
 use Rattle.blocks.specs.Block.{Region}
 use Rattle.blocks.specs.Entry.{Entry, entries}
 use Rattle.blocks.specs.Fitness.{first-flaw}
-use Rattle.blocks.specs.Means.{id-width, first, name-in, content-in, entry-in, as-entry}
+use Rattle.blocks.specs.Means.{id-width, block-count, first, name-in, content-in, entry-in, as-entry}
 use Rattle.blocks.specs.declared.block.EntryKind.{EntryKind}
-use Rattle.refs.specs.Answer.{Reference, Answer, nothing, found, refused, says, block-of}
+use Rattle.refs.specs.Answer.{Reference, Answer, nothing, found, refused, says, strip-answer, block-of}
 use Rattle.refs.specs.Search.{clashes}
 use Rattle.refs.specs.declared.raw.Kind.{Kind}
 use Rattle.refs.specs.declared.raw.Kind.the-variants.{Object, Symbolic}
@@ -73,9 +73,14 @@ abbrev pub indexed : Index → List Entry → Option Entry
 indexed (At k) l = first (drop k l)
 indexed Nothing l = none
 
+abbrev pub InRange : Index → ℕ → Type 0
+InRange (At k) n = k < n
+InRange Nothing n = Unit {0}
+
 -- the index is that of the block with the name p, where the region has no flaw
-abbrev pub IndexOf : Bytes → Bytes → Index → Type 0
-IndexOf p s i = (r : Region) → Flawless r s → indexed i (entries id-width r s) ≡ block-of p (entries id-width r s)
+pub record IndexOf (p s : Bytes) (i : Index) : Type 0 where
+  pub is : (r : Region) → Flawless r s → indexed i (entries id-width r s) ≡ block-of p (entries id-width r s)
+  pub inside : InRange i (block-count s)
 
 -- the answer is whether a file of the region is a directory of the path p, where the region has no flaw
 abbrev pub ClashOf : Bytes → Bytes → Bool → Type 0
@@ -92,3 +97,7 @@ pub record BlockIs (r : Region) (s : Bytes) (k : ℕ) (kind : EntryKind) (name c
 -- the answer is that of the entry under the name n, whatever block it is
 abbrev pub EntryAnswer : EntryKind → Bytes → Bytes → Bytes → Answered → Type 0
 EntryAnswer kind n name content a = (r : Region) (s : Bytes) (k : ℕ) → BlockIs r s k kind name content → answered a ≡ says-at n (entry-in id-width r s k)
+
+-- the answer is that of block k, stripped of e, under the name n where the file is loose, if the region has no flaw
+abbrev pub BlockAnswer : Bytes → Bytes → Bytes → ℕ → Answered → Type 0
+BlockAnswer e n s k a = (r : Region) → Flawless r s → answered a ≡ strip-answer e (says-at n (entry-in id-width r s k))

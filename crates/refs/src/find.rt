@@ -1,12 +1,21 @@
 // Search (find.rs).
 ghost use mathlib.Core.Path.{_≡_};
 ghost use mathlib.Core.List.{_++_};
-ghost use Rattle.refs.specs.Means.{IndexOf, ClashOf};
+ghost use lib.ListN.{drop};
+ghost use Rattle.names.specs.Means.{content};
+ghost use Rattle.blocks.specs.Means.{content-in};
+ghost use Rattle.refs.specs.Means.{IndexOf, ClashOf, BlockAnswer};
+use crate::raw::Answered;
+use crate::raw::entry_answer;
+use crate::raw::name_at;
+use crate::raw::strip_answer;
 use blocks::block::BLOCK_SIZE;
 use blocks::block::block_name;
+use blocks::block::sound_kind;
 use names::bytes::Order;
 use names::bytes::compare_joined;
 use names::bytes::directory_joined;
+use names::name::Name;
 
 // The number of a block, if there is one.
 pub enum Index {
@@ -45,4 +54,24 @@ fn has_clash(s: &[u8], e: &[u8], n: &[u8]) -> bool
         i += 1;
     }
     false
+}
+
+// What stands from byte off of s on: nothing, past its end.
+fn tail(s: &[u8], off: usize) -> &[u8]
+    ensures { λ r. ⌜ now r ≡ drop off (now (s .entry)) ⌝ }
+{
+    if off <= s.len() {
+        return &s[off..];
+    }
+    &s[0..0]
+}
+
+// The answer of block k of a region fit for search, stripped: a loose file's under the name n. Its content is lent beside it.
+fn block_answer(s: &[u8], k: usize, n: Name, file: &[u8], e: &[u8]) -> Answered
+    requires { ⌜ now file ≡ content-in (now s) k ⌝ }
+    ensures { λ a. ⌜ BlockAnswer (now (e .entry)) (content n) (now (s .entry)) k a ⌝ }
+{
+    let kind = sound_kind(s, k);
+    let own = name_at(s, k);
+    strip_answer(entry_answer(kind, n, own, file), e)
 }

@@ -152,7 +152,7 @@ fn reason_of(why: Refusal) -> Reason
 
 // A packed record's answer under its own name.
 fn packed(name: Name, ids: &[u8], has_peeled: bool) -> Answered
-    ensures { λ a. ⌜ answered a ≡ found (record { name = content name; target = object (id-in (now (ids .entry))); peeled = if «has_peeled» then some (id-in (drop id-width (now (ids .entry)))) else none }) ⌝ }
+    ensures { λ a. ⌜ answered a ≡ found (record { name = content name; target = object (id-in id-width (now (ids .entry))); peeled = if «has_peeled» then some (id-in id-width (drop id-width (now (ids .entry)))) else none }) ⌝ }
 {
     let id = id_of(ids);
     let peeled = second_id_of(ids);
