@@ -1,7 +1,7 @@
 -- What the code's types mean, and what its parts promise of regions.
 use mathlib.Core.Path.{_≡_}
 use Prim.Native.Nat.{ℕ, _<_}
-use mathlib.Core.List.{List}
+use mathlib.Core.List.{List, _++_}
 use mathlib.Core.Bool.{Bool}
 use mathlib.Core.Option.{Option, none, some}
 use lib.ListN.{drop}
@@ -14,7 +14,9 @@ use Rattle.blocks.specs.Fitness.{first-flaw}
 use Rattle.blocks.specs.Means.{id-width, block-count, first, name-in, content-in, entry-in, as-entry}
 use Rattle.blocks.specs.declared.block.EntryKind.{EntryKind}
 use Rattle.refs.specs.Answer.{Reference, Answer, nothing, found, refused, says, strip-answer, block-of}
-use Rattle.refs.specs.Search.{clashes}
+use Rattle.names.specs.Route.{packed-name}
+use Rattle.blocks.specs.Snapshot.{Store}
+use Rattle.refs.specs.Search.{clashes, record-of, answer-of}
 use Rattle.refs.specs.declared.raw.Kind.{Kind}
 use Rattle.refs.specs.declared.raw.Kind.the-variants.{Object, Symbolic}
 use Rattle.refs.specs.declared.raw.Reason.{Reason}
@@ -101,3 +103,11 @@ EntryAnswer kind n name content a = (r : Region) (s : Bytes) (k : ℕ) → Block
 -- the answer is that of block k, stripped of e, under the name n where the file is loose, if the region has no flaw
 abbrev pub BlockAnswer : Bytes → Bytes → Bytes → ℕ → Answered → Type 0
 BlockAnswer e n s k a = (r : Region) → Flawless r s → answered a ≡ strip-answer e (says-at n (entry-in id-width r s k))
+
+-- the answer is that of the record with the name e, n, whatever the candidate's name
+abbrev pub RecordAnswer : Bytes → Bytes → Bytes → Answered → Type 0
+RecordAnswer e n p a = (c : Bytes) → answered a ≡ answer-of id-width e c (block-of (e ++ n) (entries id-width Region.packed p))
+
+-- the answer is that of the record of the candidate c
+abbrev pub PackedAnswer : Bytes → Bytes → Bool → Bytes → Answered → Type 0
+PackedAnswer e c seek p a = (s : Store) → s .packed ≡ entries id-width Region.packed p → answered a ≡ answer-of id-width e c (record-of e s seek (packed-name c))

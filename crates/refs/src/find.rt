@@ -4,17 +4,22 @@ ghost use mathlib.Core.List.{_++_};
 ghost use lib.ListN.{drop};
 ghost use Rattle.names.specs.Means.{content};
 ghost use Rattle.blocks.specs.Means.{content-in};
-ghost use Rattle.refs.specs.Means.{IndexOf, ClashOf, BlockAnswer};
+ghost use Rattle.blocks.specs.Block.{Region};
+ghost use Rattle.refs.specs.Means.{Flawless, IndexOf, ClashOf, BlockAnswer, PackedAnswer, RecordAnswer};
 use crate::raw::Answered;
 use crate::raw::entry_answer;
 use crate::raw::name_at;
+use crate::raw::not_found;
 use crate::raw::strip_answer;
 use blocks::block::BLOCK_SIZE;
+use blocks::block::block_content;
 use blocks::block::block_name;
 use blocks::block::sound_kind;
 use names::bytes::Order;
 use names::bytes::compare_joined;
 use names::bytes::directory_joined;
+use names::find::Packed;
+use names::find::transform_full_name_for_lookup;
 use names::name::Name;
 
 // The number of a block, if there is one.
@@ -74,4 +79,34 @@ fn block_answer(s: &[u8], k: usize, n: Name, file: &[u8], e: &[u8]) -> Answered
     let kind = sound_kind(s, k);
     let own = name_at(s, k);
     strip_answer(entry_answer(kind, n, own, file), e)
+}
+
+// The packed record of a candidate s, where it is sought packed.
+fn packed_lookup(packed: &[u8], e: &[u8], s: &[u8], seek: bool) -> Answered
+    requires { ⌜ Flawless Region.packed (now packed) ⌝ }
+    ensures { λ a. ⌜ PackedAnswer (now (e .entry)) (now (s .entry)) seek (now (packed .entry)) a ⌝ }
+{
+    if !seek {
+        return not_found();
+    }
+    let name = transform_full_name_for_lookup(s);
+    match name {
+        Packed::Never => not_found(),
+        Packed::From(off) => record_lookup(packed, e, tail(s, off)),
+    }
+}
+
+// The packed record of the name e, n, stripped.
+fn record_lookup(packed: &[u8], e: &[u8], n: &[u8]) -> Answered
+    requires { ⌜ Flawless Region.packed (now packed) ⌝ }
+    ensures { λ a. ⌜ RecordAnswer (now (e .entry)) (now (n .entry)) (now (packed .entry)) a ⌝ }
+{
+    let i = block_of(packed, e, n);
+    match i {
+        Index::At(k) => {
+            let own = name_at(packed, k);
+            block_answer(packed, k, own, block_content(packed, k), e)
+        }
+        Index::Nothing => not_found(),
+    }
 }

@@ -1,0 +1,68 @@
+-- One candidate: from what the parts of a search promise to the definition's answer.
+use mathlib.Core.Path.{_≡_, refl, sym, ap, _∙_}
+use Prim.Native.Nat.{ℕ, _+_, _<_}
+use mathlib.Core.List.{List, _++_}
+use mathlib.Core.Bool.{Bool, true, false}
+use mathlib.Core.Option.{Option, none, some}
+use lib.ListN.{drop}
+use Rattle.names.specs.Bytes.{Bytes}
+use Rattle.blocks.specs.Block.{Region}
+use Rattle.blocks.specs.Entry.{Entry, damaged, failed, loose, unread, packed-record, name-of, entry, entries}
+use Rattle.blocks.specs.Means.{id-width, block-count, block-at, name-within, entry-in}
+use Rattle.blocks.proofs.Raw.{IsRecord, packed-entry}
+use Rattle.blocks.proofs.Entries.{entry-there}
+use Rattle.refs.specs.Answer.{Answer, nothing, says, strip-answer, block-of}
+use Rattle.blocks.specs.Snapshot.{Store}
+use Rattle.refs.specs.Search.{record-of, answer-of}
+use Rattle.refs.specs.Means.{Flawless, indexed, IndexOf, says-at}
+use Rattle.refs.specs.declared.find.Index.{Index}
+use Rattle.refs.specs.declared.find.Index.the-variants.{At, Nothing}
+use Rattle.refs.proofs.Regions.{block-named}
+
+module _ (r : Region) (s p : Bytes) (f : Flawless r s) (i : Index) (h : IndexOf p s i) where
+  -- the block that was found
+  pub found-block : (k : ℕ) → i ≡ At k → (k < block-count s) × (block-of p (entries id-width r s) ≡ some (entry id-width r (block-at s k)))
+  found-block k e = go i e h
+    where
+      go : (j : Index) → j ≡ At k → IndexOf p s j → (k < block-count s) × (block-of p (entries id-width r s) ≡ some (entry id-width r (block-at s k)))
+      go j q g = at (rw q at g)
+        where
+          at : IndexOf p s (At k) → (k < block-count s) × (block-of p (entries id-width r s) ≡ some (entry id-width r (block-at s k)))
+          at g = (g .inside, sym (g .is r f) ∙ entry-there id-width r s k (g .inside))
+
+  pub found-none : i ≡ Nothing → block-of p (entries id-width r s) ≡ none
+  found-none e = sym (h .is r f) ∙ rw e
+
+  -- its answer decides
+  pub found-answer : (e n : Bytes) (k : ℕ) → i ≡ At k → (a : Answer) → a ≡ strip-answer e (says-at n (entry-in id-width r s k)) → a ≡ answer-of id-width e n (block-of p (entries id-width r s))
+  found-answer e n k q a g = let b = found-block k q in g ∙ rw (b .1, entry-there id-width r s k (b .0))
+
+-- a record answers under its own name, whatever the candidate
+record-says : (n c : Bytes) (x : Entry) → IsRecord x → says id-width n x ≡ says id-width c x
+record-says n c damaged h = absurd h
+record-says n c failed h = absurd h
+record-says n c (loose m d) h = absurd h
+record-says n c (unread m) h = absurd h
+record-says n c (packed-record m t q) h = refl
+
+module _ (s p : Bytes) (f : Flawless Region.packed s) (i : Index) (h : IndexOf p s i) where
+  pub record-answer : (e n : Bytes) (k : ℕ) → i ≡ At k → (a : Answer) → a ≡ strip-answer e (says-at n (entry-in id-width Region.packed s k))
+      → (c : Bytes) → a ≡ answer-of id-width e c (block-of p (entries id-width Region.packed s))
+  record-answer e n k q a g c =
+      let b = found-block Region.packed s p f i h k q in
+      let x = entry id-width Region.packed (block-at s k) in
+      let rec = packed-entry id-width (block-at s k) (name-within (block-at s k)) (block-named Region.packed s f k (b .0)) in
+      g ∙ rw (b .1, entry-there id-width Region.packed s k (b .0)) (ap (strip-answer e) (record-says n c x rec))
+
+-- ---- sought packed or not
+
+module _ (e c : Bytes) (s : Store) where
+  pub unsought : (seek : Bool) (q : Option Bytes) → seek ≡ false → nothing ≡ answer-of id-width e c (record-of e s seek q)
+  unsought seek q h = rw h
+
+  pub never-sought : (seek : Bool) → nothing ≡ answer-of id-width e c (record-of e s seek none)
+  never-sought true = refl
+  never-sought false = refl
+
+  pub sought : (seek : Bool) (q : Bytes) (l : List Entry) → seek ≡ true → s .packed ≡ l → (a : Answer) → a ≡ answer-of id-width e c (block-of (e ++ q) l) → a ≡ answer-of id-width e c (record-of e s seek (some q))
+  sought seek q l h p a g = g ∙ rw (h, p)
