@@ -3,18 +3,19 @@ use mathlib.Core.Path.{_≡_, refl, sym, ap, _∙_}
 use Prim.Native.Nat.{ℕ, _+_, _<_}
 use mathlib.Core.List.{List, _++_}
 use mathlib.Core.Bool.{Bool, true, false}
-use mathlib.Core.Option.{Option, none, some}
+use mathlib.Core.Option.{Option, none, some, Option·map}
 use lib.ListN.{drop}
-use Rattle.names.specs.Bytes.{Bytes}
+use Rattle.names.specs.Bytes.{Bytes, if_then_else_}
+use Rattle.names.specs.Route.{Base, own, shared, at, route, packed-name}
 use Rattle.blocks.specs.Block.{Region}
 use Rattle.blocks.specs.Entry.{Entry, damaged, failed, loose, unread, packed-record, name-of, entry, entries}
-use Rattle.blocks.specs.Means.{id-width, block-count, block-at, name-within, entry-in}
+use Rattle.blocks.specs.Means.{id-width, block-count, block-at, name-within, entry-in, if-there, snapshot-of}
 use Rattle.blocks.proofs.Raw.{IsRecord, packed-entry}
 use Rattle.blocks.proofs.Entries.{entry-there}
 use Rattle.refs.specs.Answer.{Answer, nothing, says, strip-answer, block-of}
-use Rattle.blocks.specs.Snapshot.{Store}
-use Rattle.refs.specs.Search.{record-of, answer-of}
-use Rattle.refs.specs.Means.{Flawless, indexed, IndexOf, says-at}
+use Rattle.blocks.specs.Snapshot.{Store, store, common-or, region-at}
+use Rattle.refs.specs.Search.{clashes, deciding, file-of, record-of, entry-for, answer-of}
+use Rattle.refs.specs.Means.{Flawless, FitRegions, indexed, IndexOf, ClashOf, says-at, in-common, candidate-answer}
 use Rattle.refs.specs.declared.find.Index.{Index}
 use Rattle.refs.specs.declared.find.Index.the-variants.{At, Nothing}
 use Rattle.refs.proofs.Regions.{block-named}
@@ -66,3 +67,49 @@ module _ (e c : Bytes) (s : Store) where
 
   pub sought : (seek : Bool) (q : Bytes) (l : List Entry) → seek ≡ true → s .packed ≡ l → (a : Answer) → a ≡ answer-of id-width e c (block-of (e ++ q) l) → a ≡ answer-of id-width e c (record-of e s seek (some q))
   sought seek q l h p a g = g ∙ rw (h, p)
+
+-- ---- the routed region
+
+-- which region it is
+abbrev pub kind-read : Bool → Region
+kind-read true = Region.common
+kind-read false = Region.worktree
+
+module _ (w c p : Bytes) (has : Bool) where
+  region-is : (b : Base) → region-at b (store id-width (snapshot-of w (if-there has c) p)) ≡ entries id-width (kind-read (in-common b has)) (if in-common b has then c else w)
+  unfolding store
+  region-is own = refl
+  region-is shared = go has
+    where
+      go : (h : Bool) → common-or (Option·map (entries id-width Region.common) (if-there h c)) (entries id-width Region.worktree w) ≡ entries id-width (kind-read h) (if h then c else w)
+      go true = refl
+      go false = refl
+
+  module _ (fit : FitRegions (snapshot-of w (if-there has c) p)) where
+    pub region-fit : (b : Base) → Flawless (kind-read (in-common b has)) (if in-common b has then c else w)
+    region-fit own = fit .worktree
+    region-fit shared = go has (fit .common)
+      where
+        go : (h : Bool) → ((x : Bytes) → if-there h c ≡ some x → Flawless Region.common x) → Flawless (kind-read h) (if h then c else w)
+        go true f = f c refl
+        go false f = fit .worktree
+
+    module _ (e n : Bytes) (b : Base) (path : Bytes) (q : at b path ≡ route n) (seek : Bool) where
+      decided : candidate-answer e (snapshot-of w (if-there has c) p) n seek
+          ≡ answer-of id-width e n (deciding (clashes (e ++ path) (entries id-width (kind-read (in-common b has)) (if in-common b has then c else w))) (block-of (e ++ path) (entries id-width (kind-read (in-common b has)) (if in-common b has then c else w))) (record-of e (store id-width (snapshot-of w (if-there has c) p)) seek (packed-name n)))
+      unfolding entry-for file-of
+      decided = rw (← q, region-is b)
+
+      pub lookup-clash : ClashOf (e ++ path) (if in-common b has then c else w) true → nothing ≡ candidate-answer e (snapshot-of w (if-there has c) p) n seek
+      lookup-clash h = sym (decided ∙ rw (← h (kind-read (in-common b has)) (region-fit b)))
+
+      module _ (h : ClashOf (e ++ path) (if in-common b has then c else w) false) (i : Index) (g : IndexOf (e ++ path) (if in-common b has then c else w) i) where
+        pub lookup-loose : (k : ℕ) → i ≡ At k → (a : Answer) → a ≡ strip-answer e (says-at n (entry-in id-width (kind-read (in-common b has)) (if in-common b has then c else w) k)) → a ≡ candidate-answer e (snapshot-of w (if-there has c) p) n seek
+        lookup-loose k j a f =
+            let m = found-block (kind-read (in-common b has)) (if in-common b has then c else w) (e ++ path) (region-fit b) i g k j in
+            found-answer (kind-read (in-common b has)) (if in-common b has then c else w) (e ++ path) (region-fit b) i g e n k j a f
+            ∙ sym (decided ∙ rw (← h (kind-read (in-common b has)) (region-fit b), m .1))
+
+        pub lookup-packed : i ≡ Nothing → (a : Answer) → a ≡ answer-of id-width e n (record-of e (store id-width (snapshot-of w (if-there has c) p)) seek (packed-name n)) → a ≡ candidate-answer e (snapshot-of w (if-there has c) p) n seek
+        lookup-packed j a f =
+            f ∙ sym (decided ∙ rw (← h (kind-read (in-common b has)) (region-fit b), found-none (kind-read (in-common b has)) (if in-common b has then c else w) (e ++ path) (region-fit b) i g j))

@@ -2,7 +2,7 @@
 use mathlib.Core.Path.{_≡_}
 use Prim.Native.Nat.{ℕ, _<_}
 use mathlib.Core.List.{List, _++_}
-use mathlib.Core.Bool.{Bool}
+use mathlib.Core.Bool.{Bool, false}
 use mathlib.Core.Option.{Option, none, some}
 use lib.ListN.{drop}
 use Rattle.names.specs.Bytes.{Bytes, if_then_else_}
@@ -14,9 +14,10 @@ use Rattle.blocks.specs.Fitness.{first-flaw}
 use Rattle.blocks.specs.Means.{id-width, block-count, first, name-in, content-in, entry-in, as-entry}
 use Rattle.blocks.specs.declared.block.EntryKind.{EntryKind}
 use Rattle.refs.specs.Answer.{Reference, Answer, nothing, found, refused, says, strip-answer, block-of}
-use Rattle.names.specs.Route.{packed-name}
-use Rattle.blocks.specs.Snapshot.{Store}
-use Rattle.refs.specs.Search.{clashes, record-of, answer-of}
+use Rattle.names.specs.Route.{Base, own, shared, packed-name}
+use Rattle.names.specs.Candidates.{Candidate}
+use Rattle.blocks.specs.Snapshot.{Snapshot, Store, store}
+use Rattle.refs.specs.Search.{clashes, record-of, entry-for, answer-of}
 use Rattle.refs.specs.declared.raw.Kind.{Kind}
 use Rattle.refs.specs.declared.raw.Kind.the-variants.{Object, Symbolic}
 use Rattle.refs.specs.declared.raw.Reason.{Reason}
@@ -70,6 +71,12 @@ says-at n (some e) = says id-width n e
 abbrev pub Flawless : Region → Bytes → Type 0
 Flawless r s = first-flaw r (entries id-width r s) ≡ none
 
+-- no region of a snapshot has one
+pub record FitRegions (s : Snapshot) : Type 0 where
+  pub worktree : Flawless Region.worktree (s .worktree)
+  pub common : (c : Bytes) → s .common ≡ some c → Flawless Region.common c
+  pub packed : Flawless Region.packed (s .packed)
+
 -- the entry of an index, if it is one
 abbrev pub indexed : Index → List Entry → Option Entry
 indexed (At k) l = first (drop k l)
@@ -111,3 +118,16 @@ RecordAnswer e n p a = (c : Bytes) → answered a ≡ answer-of id-width e c (bl
 -- the answer is that of the record of the candidate c
 abbrev pub PackedAnswer : Bytes → Bytes → Bool → Bytes → Answered → Type 0
 PackedAnswer e c seek p a = (s : Store) → s .packed ≡ entries id-width Region.packed p → answered a ≡ answer-of id-width e c (record-of e s seek (packed-name c))
+
+-- search reads the common region: a shared name, where there is one
+abbrev pub in-common : Base → Bool → Bool
+in-common own has = false
+in-common shared has = has
+
+-- a candidate, and whether it is sought packed
+abbrev pub candidate : Bytes → Bool → Candidate
+candidate c seek = record { name = c; packed = seek }
+
+-- what the candidate answers, over 250 bytes or not
+abbrev pub candidate-answer : Bytes → Snapshot → Bytes → Bool → Answer
+candidate-answer e s c seek = answer-of id-width e c (entry-for e (store id-width s) (candidate c seek))

@@ -2,10 +2,11 @@
 ghost use mathlib.Core.Path.{_≡_};
 ghost use mathlib.Core.List.{_++_};
 ghost use lib.ListN.{drop};
-ghost use Rattle.names.specs.Means.{content};
-ghost use Rattle.blocks.specs.Means.{content-in};
+ghost use Rattle.names.specs.Bytes.{if_then_else_};
+ghost use Rattle.names.specs.Means.{content, base-of};
+ghost use Rattle.blocks.specs.Means.{content-in, if-there, snapshot-of};
 ghost use Rattle.blocks.specs.Block.{Region};
-ghost use Rattle.refs.specs.Means.{Flawless, IndexOf, ClashOf, BlockAnswer, PackedAnswer, RecordAnswer};
+ghost use Rattle.refs.specs.Means.{Flawless, FitRegions, IndexOf, ClashOf, answered, BlockAnswer, PackedAnswer, RecordAnswer, in-common, candidate-answer};
 use crate::raw::Answered;
 use crate::raw::entry_answer;
 use crate::raw::name_at;
@@ -14,13 +15,17 @@ use crate::raw::strip_answer;
 use blocks::block::BLOCK_SIZE;
 use blocks::block::block_content;
 use blocks::block::block_name;
+use blocks::block::content_of;
 use blocks::block::sound_kind;
 use names::bytes::Order;
 use names::bytes::compare_joined;
 use names::bytes::directory_joined;
+use names::find::Base;
 use names::find::Packed;
+use names::find::to_base_dir_and_relative_name;
 use names::find::transform_full_name_for_lookup;
 use names::name::Name;
+use names::name::lend;
 
 // The number of a block, if there is one.
 pub enum Index {
@@ -108,5 +113,57 @@ fn record_lookup(packed: &[u8], e: &[u8], n: &[u8]) -> Answered
             block_answer(packed, k, own, block_content(packed, k), e)
         }
         Index::Nothing => not_found(),
+    }
+}
+
+// Whether the common region is read: a shared name, where there is one.
+fn reads_common(base: Base, has_common: bool) -> bool
+    ensures { λ r. ⌜ r ≡ in-common (base-of base) «has_common» ⌝ }
+{
+    match base {
+        Base::Own => false,
+        Base::Shared => has_common,
+    }
+}
+
+// The loose region that is read.
+fn loose_region<'a>(worktree: &'a [u8], common: &'a [u8], in_common: bool) -> &'a [u8]
+    ensures { λ r. ⌜ now r ≡ (if «in_common» then now (common .entry) else now (worktree .entry)) ⌝ }
+{
+    if in_common {
+        return common;
+    }
+    worktree
+}
+
+// What a candidate answers in regions fit for search.
+fn lookup<'a>(
+    worktree: &'a [u8],
+    common: &'a [u8],
+    has_common: bool,
+    packed: &[u8],
+    e: &[u8],
+    c: Name,
+    seek: bool,
+) -> Answered
+    requires { ⌜ FitRegions (snapshot-of (now worktree) (if-there «has_common» (now common)) (now packed)) ⌝ }
+    ensures { λ a. ⌜ answered a ≡ candidate-answer (now (e .entry)) (snapshot-of (now (worktree .entry)) (if-there «has_common» (now (common .entry))) (now (packed .entry))) (content c) seek ⌝ }
+{
+    let b = c.bytes;
+    let len = c.len;
+    let s = lend(&b, len);
+    let place = to_base_dir_and_relative_name(s);
+    let base = place.base;
+    let off = place.off;
+    let in_common = reads_common(base, has_common);
+    let region = loose_region(worktree, common, in_common);
+    let path = tail(s, off);
+    if has_clash(region, e, path) {
+        return not_found();
+    }
+    let i = block_of(region, e, path);
+    match i {
+        Index::At(k) => block_answer(region, k, c, content_of(worktree, common, in_common, k), e),
+        Index::Nothing => packed_lookup(packed, e, s, seek),
     }
 }
