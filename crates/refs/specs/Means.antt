@@ -1,12 +1,14 @@
 -- What the code's types mean, and what its parts promise of regions.
 use mathlib.Core.Path.{_≡_}
 use Prim.Native.Nat.{ℕ, _<_}
-use mathlib.Core.List.{List, _++_}
-use mathlib.Core.Bool.{Bool, false}
+use mathlib.Core.List.{List, [], _∷_, _++_}
+use mathlib.Core.Bool.{Bool, true, false}
 use mathlib.Core.Option.{Option, none, some}
-use lib.ListN.{drop}
-use Rattle.names.specs.Bytes.{Bytes, if_then_else_}
-use Rattle.names.specs.Means.{content}
+use lib.Dec.{eqb}
+use lib.ListN.{take, drop}
+use Rattle.names.specs.Bytes.{Bytes, bytes, if_then_else_}
+use Rattle.names.specs.Means.{content, made-name, if-fits}
+use Rattle.names.specs.declared.name.Made.{Made}
 use Rattle.blocks.specs.Content.{Target, object, symbolic}
 use Rattle.blocks.specs.Block.{Region}
 use Rattle.blocks.specs.Entry.{Entry, entries}
@@ -15,9 +17,9 @@ use Rattle.blocks.specs.Means.{id-width, block-count, first, name-in, content-i
 use Rattle.blocks.specs.declared.block.EntryKind.{EntryKind}
 use Rattle.refs.specs.Answer.{Reference, Answer, nothing, found, refused, says, strip-answer, block-of}
 use Rattle.names.specs.Route.{Base, own, shared, packed-name}
-use Rattle.names.specs.Candidates.{Candidate}
+use Rattle.names.specs.Candidates.{Candidate, pass, last-candidate}
 use Rattle.blocks.specs.Snapshot.{Snapshot, Store, store}
-use Rattle.refs.specs.Search.{clashes, record-of, entry-for, answer-of}
+use Rattle.refs.specs.Search.{clashes, record-of, entry-for, answer-of, lookup, first-answer, search}
 use Rattle.refs.specs.declared.raw.Kind.{Kind}
 use Rattle.refs.specs.declared.raw.Kind.the-variants.{Object, Symbolic}
 use Rattle.refs.specs.declared.raw.Reason.{Reason}
@@ -131,3 +133,50 @@ candidate c seek = record { name = c; packed = seek }
 -- what the candidate answers, over 250 bytes or not
 abbrev pub candidate-answer : Bytes → Snapshot → Bytes → Bool → Answer
 candidate-answer e s c seek = answer-of id-width e c (entry-for e (store id-width s) (candidate c seek))
+
+-- ---- search
+
+-- what the candidate answers: nothing, over 250 bytes
+abbrev pub looked-up : Bytes → Snapshot → Bytes → Bool → Answer
+looked-up e s n seek = lookup id-width e (store id-width s) (candidate n seek)
+
+-- the first answer, or else the second
+abbrev pub or-answer : Answer → Answer → Answer
+or-answer nothing b = b
+or-answer (found r) b = found r
+or-answer (refused k) b = refused k
+
+-- the first answer of names, sought packed too, or else the rest
+unfoldable pub first-of : Bytes → Snapshot → List Bytes → Answer → Answer
+first-of e s [] rest = rest
+first-of e s (n ∷ l) rest = or-answer (looked-up e s n true) (first-of e s l rest)
+
+-- the directories of a pass, by number
+abbrev pub between : ℕ → Bytes
+between d = if eqb d 1 then bytes "tags/" else if eqb d 2 then bytes "heads/" else if eqb d 3 then bytes "remotes/" else []
+
+-- the names of a pass; only the first, if it is left early
+abbrev pub pass-names : Bool → Bool → Bytes → List Bytes
+pass-names pseudo one x = if one then take 1 (pass pseudo x) else pass pseudo x
+
+-- a pass answers so, before the rest
+abbrev pub PassAnswer : Bytes → Snapshot → List Bytes → Answered → Type 0
+PassAnswer e s l a = (rest : Answer) → first-of e s l rest ≡ or-answer (answered a) rest
+
+-- the answer is that of the candidate n, if the name was made of it
+abbrev pub MadeAnswer : Bytes → Snapshot → Made → Bool → Answered → Type 0
+MadeAnswer e s m seek a = (n : Bytes) → made-name m ≡ if-fits n → answered a ≡ looked-up e s n seek
+
+-- what the last candidate answers
+abbrev pub last-answer : Bytes → Snapshot → Bytes → Answer
+last-answer e s x = first-answer id-width e (store id-width s) (last-candidate x) .answer
+
+-- there is an answer
+abbrev pub is-answer : Answer → Bool
+is-answer nothing = false
+is-answer (found r) = true
+is-answer (refused k) = true
+
+-- what a search answers
+abbrev pub search-answer : Bytes → Snapshot → Bytes → Answer
+search-answer e s x = search id-width e (store id-width s) x .answer

@@ -3,11 +3,13 @@ ghost use mathlib.Core.Path.{_≡_};
 ghost use mathlib.Core.List.{_++_};
 ghost use lib.ListN.{drop};
 ghost use Rattle.names.specs.Bytes.{if_then_else_};
-ghost use Rattle.names.specs.Means.{content, base-of};
+ghost use Rattle.names.specs.Candidates.{full-name};
+ghost use Rattle.names.specs.Means.{content, made-name, if-fits, base-of};
 ghost use Rattle.blocks.specs.Means.{content-in, if-there, snapshot-of};
 ghost use Rattle.blocks.specs.Block.{Region};
-ghost use Rattle.refs.specs.Means.{Flawless, FitRegions, IndexOf, ClashOf, answered, BlockAnswer, PackedAnswer, RecordAnswer, in-common, candidate-answer};
+ghost use Rattle.refs.specs.Means.{Flawless, FitRegions, IndexOf, ClashOf, answered, BlockAnswer, PackedAnswer, RecordAnswer, in-common, candidate-answer, between, is-answer, MadeAnswer};
 use crate::raw::Answered;
+use crate::raw::Outcome;
 use crate::raw::entry_answer;
 use crate::raw::name_at;
 use crate::raw::not_found;
@@ -24,7 +26,9 @@ use names::find::Base;
 use names::find::Packed;
 use names::find::to_base_dir_and_relative_name;
 use names::find::transform_full_name_for_lookup;
+use names::name::Made;
 use names::name::Name;
+use names::name::construct_full_name_ref;
 use names::name::lend;
 
 // The number of a block, if there is one.
@@ -165,5 +169,50 @@ fn lookup<'a>(
     match i {
         Index::At(k) => block_answer(region, k, c, content_of(worktree, common, in_common, k), e),
         Index::Nothing => packed_lookup(packed, e, s, seek),
+    }
+}
+
+// What the candidate that was made answers: nothing, where it did not fit.
+fn made_answer<'a>(
+    worktree: &'a [u8],
+    common: &'a [u8],
+    has_common: bool,
+    packed: &[u8],
+    e: &[u8],
+    m: Made,
+    seek: bool,
+) -> Answered
+    requires { ⌜ FitRegions (snapshot-of (now worktree) (if-there «has_common» (now common)) (now packed)) ⌝ }
+    ensures { λ a. ⌜ MadeAnswer (now (e .entry)) (snapshot-of (now (worktree .entry)) (if-there «has_common» (now (common .entry))) (now (packed .entry))) m seek a ⌝ }
+{
+    let ok = m.ok;
+    if !ok {
+        return not_found();
+    }
+    let c = m.name;
+    lookup(worktree, common, has_common, packed, e, c, seek)
+}
+
+// The candidate for x with directory d in between.
+fn candidate_for(x: &[u8], d: usize, pseudo: bool) -> Made
+    ensures { λ m. ⌜ made-name m ≡ if-fits (full-name pseudo (between d) (now (x .entry))) ⌝ }
+{
+    match d {
+        1 => construct_full_name_ref(x, b"tags/", pseudo),
+        2 => construct_full_name_ref(x, b"heads/", pseudo),
+        3 => construct_full_name_ref(x, b"remotes/", pseudo),
+        _ => construct_full_name_ref(x, b"", pseudo),
+    }
+}
+
+// Whether there is an answer.
+fn has_answer(a: Answered) -> bool
+    ensures { λ r. ⌜ r ≡ is-answer (answered a) ⌝ }
+{
+    let outcome = a.outcome;
+    match outcome {
+        Outcome::Nothing => false,
+        Outcome::Found => true,
+        Outcome::Refused(_) => true,
     }
 }
