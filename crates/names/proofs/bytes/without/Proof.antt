@@ -17,7 +17,8 @@ returns c = rw (← c .before .starts-with .ensures, not-true (c .before .starts
 
 sub-result : tie.Need-sub-result
 sub-result c =
-    starts-length (c .before .before .before .before .args .p .now) (c .before .before .before .before .args .s .now) (sym (c .before .starts-with .ensures) ∙ not-false (c .before .starts-with .result) (c .if1 .left))
+    starts-length (c .before .before .before .before .args .p .now) (c .before .before .before .before .args .s .now)
+    (sym (c .before .starts-with .ensures) ∙ not-false (c .before .starts-with .result) (c .if1 .left))
 
 part-result-start : tie.Need-part-result-start
 part-result-start c = sub-result c
