@@ -3,7 +3,7 @@
 ghost use mathlib.Core.Path.{_≡_};
 ghost use mathlib.Core.List.{_++_};
 ghost use lib.Dec.{isEq};
-ghost use Rattle.names.specs.Bytes.{order, same, starts-with, ends-with, contains};
+ghost use Rattle.names.specs.Bytes.{order, same, starts-with, ends-with, contains, strip};
 ghost use Rattle.names.specs.Name.{directory};
 ghost use Rattle.names.specs.Means.{ordering};
 
@@ -93,6 +93,17 @@ pub fn contains(s: &[u8], p: &[u8]) -> bool
         i += 1;
     }
     p.len() == 0
+}
+
+// s without p, where that stands in front.
+pub fn without<'a>(s: &'a [u8], p: &[u8]) -> &'a [u8]
+    ensures { λ r. ⌜ now r ≡ strip (now (p .entry)) (now (s .entry)) ⌝ }
+{
+    if !starts_with(s, p) {
+        return s;
+    }
+    let k = p.len();
+    &s[k..]
 }
 
 // Does t begin with s and a slash?

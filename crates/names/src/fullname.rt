@@ -1,5 +1,6 @@
 // Full names and their categories (fullname.rs, name.rs).
 use crate::bytes::starts_with;
+use crate::bytes::without;
 use crate::name::LONGEST;
 use crate::name::Made;
 use crate::name::Name;
@@ -54,7 +55,7 @@ pub struct CheckedFull {
 }
 
 // Where a slash is.
-pub enum Slash {
+enum Slash {
     At(usize),
     Nowhere,
 }
@@ -213,17 +214,6 @@ pub fn full_name(s: &[u8]) -> CheckedFull
         verdict: Verdict::Accepted,
         name,
     }
-}
-
-// s without the word, where that stands in front.
-fn without<'a>(s: &'a [u8], word: &[u8]) -> &'a [u8]
-    ensures { λ r. ⌜ now r ≡ strip (now (word .entry)) (now (s .entry)) ⌝ }
-{
-    if !starts_with(s, word) {
-        return s;
-    }
-    let k = word.len();
-    &s[k..]
 }
 
 // p behind the prefix, unless it begins with it already.

@@ -14,7 +14,8 @@ use Rattle.names.proofs.find.to_base_dir_and_relative_name.Tie as tie
 
 by-class : (c : tie.After-k) → route (c .before .before .before .before .args .s .now) ≡ route-as (some (category-with (λ k. take k (drop 10 (c .before .before .before .before .args .s .now))) (c .k .given .0 .0))) (c .before .before .before .before .args .s .now) (drop (c .k .given .0 .1 .0) (c .before .before .before .before .args .s .now))
 by-class c =
-    route-class (c .before .before .before .before .args .s .now) (c .before .before .category-and-short-name .result) (c .before .before .category-and-short-name .ensures) (c .k .given .0 .0) (c .k .given .0 .1 .0) (c .k .given .1)
+    route-class (c .before .before .before .before .args .s .now) (c .before .before .category-and-short-name .result)
+    (c .before .before .category-and-short-name .ensures) (c .k .given .0 .0) (c .k .given .0 .1 .0) (c .k .given .1)
 
 within : (c : tie.After-k) → c .k .given .0 .1 .0 ≤ length (c .before .before .before .before .args .s .now)
 within c = rw (← c .before .before .category-and-short-name .ensures, c .k .given .1) at (off-within (c .before .before .before .before .args .s .now))

@@ -11,7 +11,8 @@ use Rattle.names.proofs.find.transform_full_name_for_lookup.Tie as tie
 
 by-class : (c : tie.After-k) → packed-name (c .before .before .before .before .args .s .now) ≡ packed-as (some (category-with (λ k. take k (drop 10 (c .before .before .before .before .args .s .now))) (c .k .given .0 .0))) (c .before .before .before .before .args .s .now) (drop (c .k .given .0 .1 .0) (c .before .before .before .before .args .s .now))
 by-class c =
-    packed-class (c .before .before .before .before .args .s .now) (c .before .before .category-and-short-name .result) (c .before .before .category-and-short-name .ensures) (c .k .given .0 .0) (c .k .given .0 .1 .0) (c .k .given .1)
+    packed-class (c .before .before .before .before .args .s .now) (c .before .before .category-and-short-name .result)
+    (c .before .before .category-and-short-name .ensures) (c .k .given .0 .0) (c .k .given .0 .1 .0) (c .k .given .1)
 
 category-and-short-name-requires : tie.Need-category-and-short-name-requires
 category-and-short-name-requires c κs = search needs

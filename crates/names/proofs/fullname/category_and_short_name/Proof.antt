@@ -62,7 +62,8 @@ classified-requires c κs = search needs
 returns : tie.Need-returns
 unfolding tries
 returns c =
-    c .classified .ensures _ ∙ sym (holds (untried (c .before .before .before .before .before .args .s .now)) (lit< tt) (sym (c .before .before .starts-with .ensures) ∙ c .before .if1 .taken))
+    c .classified .ensures _ ∙ sym
+    (holds (untried (c .before .before .before .before .before .args .s .now)) (lit< tt) (sym (c .before .before .starts-with .ensures) ∙ c .before .if1 .taken))
 
 slice-aggregate-starts-with-2 : tie.Need-slice-aggregate-starts-with-2
 slice-aggregate-starts-with-2 c = search needs
@@ -166,11 +167,12 @@ starts-with-requires-8 c κs = search needs
 
 sub-classify-below : tie.Need-sub-classify-below
 sub-classify-below c =
-    starts-length (bytes "main-worktree/") (c .before .before .before .before .before .before .before .before .before .before .before .before .before .before .before .before .before .before .before .before .before .before .before .before .before .before .before .args .s .now) (sym (c .before .starts-with8 .ensures) ∙ c .if9 .taken)
+    starts-length (bytes "main-worktree/")
+    (c .before .before .before .before .before .before .before .before .before .before .before .before .before .before .before .before .before .before .before .before .before .before .before .before .before .before .before .args .s .now)
+    (sym (c .before .starts-with8 .ensures) ∙ c .if9 .taken)
 
 part-classify-below-start : tie.Need-part-classify-below-start
-part-classify-below-start c =
-    starts-length (bytes "main-worktree/") (c .before .before .before .before .before .before .before .before .before .before .before .before .before .before .before .before .before .before .before .before .before .before .before .before .before .before .before .args .s .now) (sym (c .before .starts-with8 .ensures) ∙ c .if9 .taken)
+part-classify-below-start c = sub-classify-below c
 
 part-classify-below-end : tie.Need-part-classify-below-end
 part-classify-below-end c = search needs
@@ -191,11 +193,12 @@ starts-with-requires-9 c κs = search needs
 
 sub-classify-linked : tie.Need-sub-classify-linked
 sub-classify-linked c =
-    starts-length (bytes "worktrees/") (c .before .before .before .before .before .before .before .before .before .before .before .before .before .before .before .before .before .before .before .before .before .before .before .before .before .before .before .before .before .before .args .s .now) (sym (c .before .starts-with9 .ensures) ∙ c .if10 .taken)
+    starts-length (bytes "worktrees/")
+    (c .before .before .before .before .before .before .before .before .before .before .before .before .before .before .before .before .before .before .before .before .before .before .before .before .before .before .before .before .before .before .args .s .now)
+    (sym (c .before .starts-with9 .ensures) ∙ c .if10 .taken)
 
 part-classify-linked-start : tie.Need-part-classify-linked-start
-part-classify-linked-start c =
-    starts-length (bytes "worktrees/") (c .before .before .before .before .before .before .before .before .before .before .before .before .before .before .before .before .before .before .before .before .before .before .before .before .before .before .before .before .before .before .args .s .now) (sym (c .before .starts-with9 .ensures) ∙ c .if10 .taken)
+part-classify-linked-start c = sub-classify-linked c
 
 part-classify-linked-end : tie.Need-part-classify-linked-end
 part-classify-linked-end c = search needs

@@ -21,7 +21,8 @@ enum-told c = search needs
 returns : tie.Need-returns
 unfolding is-private category
 returns c =
-    c .is-worktree-private .ensures (λ k. take k (drop 10 (c .before .before .before .before .before .before .args .s .now))) ∙ rw (← c .before .before .before .before .category-and-short-name .ensures, c .before .before .k .given .1)
+    c .is-worktree-private .ensures (λ k. take k (drop 10 (c .before .before .before .before .before .before .args .s .now)))
+    ∙ rw (← c .before .before .before .before .category-and-short-name .ensures, c .before .before .k .given .1)
 
 returns-2 : tie.Need-returns-2
 unfolding is-private category

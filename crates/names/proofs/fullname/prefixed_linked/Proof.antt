@@ -16,7 +16,8 @@ returns : tie.Need-returns
 returns c =
     let args = c .before .before .before .before .args in
     let front = bytes "worktrees/" ++ args .worktree .now ++ bytes "/" in
-    made-longer (c .before .worktree-prefix .result) front (c .before .worktree-prefix .ensures) (behind front (args .p .now)) (behind-longer front (args .p .now)) (not-true (c .before .worktree-prefix .result .ok) (c .if1 .taken))
+    made-longer (c .before .worktree-prefix .result) front (c .before .worktree-prefix .ensures) (behind front (args .p .now))
+    (behind-longer front (args .p .now)) (not-true (c .before .worktree-prefix .result .ok) (c .if1 .taken))
 
 slice-aggregate-lend : tie.Need-slice-aggregate-lend
 slice-aggregate-lend c = search needs
@@ -32,7 +33,9 @@ returns-2 c =
     let front = bytes "worktrees/" ++ c .before .before .before .before .before .before .before .before .before .args .worktree .now ++ bytes "/" in
     rw (
       c .before .lend .ensures,
-      made-is (c .before .before .before .before .before .before .worktree-prefix .result) front (c .before .before .before .before .before .before .worktree-prefix .ensures) (not-false (c .before .before .before .before .before .before .worktree-prefix .result .ok) (c .before .before .before .before .before .if1 .left)),
+      made-is (c .before .before .before .before .before .before .worktree-prefix .result) front
+          (c .before .before .before .before .before .before .worktree-prefix .ensures)
+          (not-false (c .before .before .before .before .before .before .worktree-prefix .result .ok) (c .before .before .before .before .before .if1 .left)),
     ) at (c .prefixed .ensures)
 
 pub prefixed-linked-spec : {M : Type 1} → statement M

@@ -34,7 +34,8 @@ pushed-requires c κs =
 
 returns : tie.Need-returns
 returns c =
-    c .pushed .ensures ∙ rw (c .before .empty .ensures, c .before .before .without .ensures, c .before .before .before .lend .ensures, whole (c .before .before .before .before .before .before))
+    c .pushed .ensures ∙ rw
+    (c .before .empty .ensures, c .before .before .without .ensures, c .before .before .before .lend .ensures, whole (c .before .before .before .before .before .before))
 
 pub strip-namespace-spec : {M : Type 1} → statement M
 strip-namespace-spec =

@@ -46,7 +46,8 @@ unfolding to-full-name
 returns-3 c =
     let k = not-false (c .before .before .before .before .before .before .before .before .full-of .result .ok) (c .before .before .before .before .before .if2 .left) in
     rw (
-      le-leb (length (c .before .before .before .before .before .before .before .before .before .before .before .args .short .now)) longest (c .before .before .before .before .before .before .if1 .left),
+      le-leb (length (c .before .before .before .before .before .before .before .before .before .before .before .args .short .now)) longest
+          (c .before .before .before .before .before .before .if1 .left),
       ← fitting (c .before .before .before .before .before .before .before .before),
       k,
       ← is (c .before .before .before .before .before .before .before .before) k,
@@ -60,7 +61,8 @@ unfolding to-full-name
 returns-4 c =
     let k = not-false (c .before .before .before .before .before .before .before .before .full-of .result .ok) (c .before .before .before .before .before .if2 .left) in
     rw (
-      le-leb (length (c .before .before .before .before .before .before .before .before .before .before .before .args .short .now)) longest (c .before .before .before .before .before .before .if1 .left),
+      le-leb (length (c .before .before .before .before .before .before .before .before .before .before .before .args .short .now)) longest
+          (c .before .before .before .before .before .before .if1 .left),
       ← fitting (c .before .before .before .before .before .before .before .before),
       k,
       ← is (c .before .before .before .before .before .before .before .before) k,

@@ -22,7 +22,9 @@ join-requires c κs = search needs
 
 returns : tie.Need-returns
 returns c =
-    made-refused (c .before .join .result) (bytes "worktrees/" ++ c .before .before .before .before .before .before .args .worktree .now) (rw (c .before .before .pushed .ensures, c .before .before .before .before .empty .ensures) at (c .before .join .ensures)) (bytes "/") (not-true (c .before .join .result .ok) (c .if1 .taken))
+    made-refused (c .before .join .result) (bytes "worktrees/" ++ c .before .before .before .before .before .before .args .worktree .now)
+    (rw (c .before .before .pushed .ensures, c .before .before .before .before .empty .ensures) at (c .before .join .ensures)) (bytes "/")
+    (not-true (c .before .join .result .ok) (c .if1 .taken))
 
 slice-aggregate-join : tie.Need-slice-aggregate-join
 slice-aggregate-join c = search needs
@@ -32,7 +34,10 @@ join-requires-2 c κs = search needs
 
 returns-2 : tie.Need-returns-2
 returns-2 c =
-    made-behind (c .before .before .before .before .join .result) (bytes "worktrees/" ++ c .before .before .before .before .before .before .before .before .before .args .worktree .now) (rw (c .before .before .before .before .before .pushed .ensures, c .before .before .before .before .before .before .before .empty .ensures) at (c .before .before .before .before .join .ensures)) (c .join2 .result) (bytes "/")
+    made-behind (c .before .before .before .before .join .result)
+    (bytes "worktrees/" ++ c .before .before .before .before .before .before .before .before .before .args .worktree .now)
+    (rw (c .before .before .before .before .before .pushed .ensures, c .before .before .before .before .before .before .before .empty .ensures) at (c .before .before .before .before .join .ensures))
+    (c .join2 .result) (bytes "/")
     (not-false (c .before .before .before .before .join .result .ok) (c .before .before .before .if1 .left)) (c .join2 .ensures)
 
 pub worktree-prefix-spec : {M : Type 1} → statement M

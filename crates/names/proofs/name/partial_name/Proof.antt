@@ -24,7 +24,8 @@ returns-2 : tie.Need-returns-2
 unfolding names-check
 returns-2 c =
     rw (
-      ← made-ok (c .before .before .before .before .from-bytes .result) (c .before .before .before .before .before .before .args .s .now) (c .before .before .before .before .from-bytes .ensures),
+      ← made-ok (c .before .before .before .before .from-bytes .result) (c .before .before .before .before .before .before .args .s .now)
+          (c .before .before .before .before .from-bytes .ensures),
       not-false (c .before .before .before .before .from-bytes .result .ok) (c .before .before .if1 .left),
       ← c .before .well-formed .ensures,
       not-true (c .before .well-formed .result) (c .if2 .taken),

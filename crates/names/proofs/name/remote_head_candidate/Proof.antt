@@ -19,7 +19,8 @@ returns : tie.Need-returns
 returns c =
     let x = c .before .before .before .args .x .now in
     let h : length x ≤ length (full-name true (bytes "remotes/") (x ++ bytes "/HEAD")) = omega (arith, full-longer true (bytes "remotes/") (x ++ bytes "/HEAD"), length-append x (bytes "/HEAD")) in
-    made-longer (c .before .from-bytes .result) x (c .before .from-bytes .ensures) (full-name true (bytes "remotes/") (x ++ bytes "/HEAD")) h (not-true (c .before .from-bytes .result .ok) (c .if1 .taken))
+    made-longer (c .before .from-bytes .result) x (c .before .from-bytes .ensures) (full-name true (bytes "remotes/") (x ++ bytes "/HEAD")) h
+    (not-true (c .before .from-bytes .result .ok) (c .if1 .taken))
 
 slice-aggregate-join : tie.Need-slice-aggregate-join
 slice-aggregate-join c = search needs
@@ -31,7 +32,8 @@ returns-2 : tie.Need-returns-2
 returns-2 c =
     let x = c .before .before .before .before .before .before .before .args .x .now in
     let e = made-behind (c .before .before .before .before .before .from-bytes .result) x (c .before .before .before .before .before .from-bytes .ensures) (c .before .join .result) (bytes "/HEAD") (not-false (c .before .before .before .before .before .from-bytes .result .ok) (c .before .before .before .before .if1 .left)) (c .before .join .ensures) in
-    made-longer (c .before .join .result) (x ++ bytes "/HEAD") e (full-name true (bytes "remotes/") (x ++ bytes "/HEAD")) (full-longer true (bytes "remotes/") (x ++ bytes "/HEAD")) (not-true (c .before .join .result .ok) (c .if2 .taken))
+    made-longer (c .before .join .result) (x ++ bytes "/HEAD") e (full-name true (bytes "remotes/") (x ++ bytes "/HEAD"))
+    (full-longer true (bytes "remotes/") (x ++ bytes "/HEAD")) (not-true (c .before .join .result .ok) (c .if2 .taken))
 
 slice-aggregate-lend : tie.Need-slice-aggregate-lend
 slice-aggregate-lend c = search needs

@@ -21,7 +21,8 @@ join-requires-2 c κs = search needs
 returns-2 : tie.Need-returns-2
 returns-2 c =
     let args = c .before .before .before .before .before .before .args in
-    made-behind (c .before .before .before .join .result) (content (args .n) ++ args .s .now) (c .before .before .before .join .ensures) (c .join2 .result) (args .t .now) (not-false (c .before .before .before .join .result .ok) (c .before .before .if1 .left)) (c .join2 .ensures)
+    made-behind (c .before .before .before .join .result) (content (args .n) ++ args .s .now) (c .before .before .before .join .ensures)
+    (c .join2 .result) (args .t .now) (not-false (c .before .before .before .join .result .ok) (c .before .before .if1 .left)) (c .join2 .ensures)
 
 pub join-both-spec : {M : Type 1} → statement M
 join-both-spec = tie.close (tie.spec join-requires returns join-requires-2 returns-2)

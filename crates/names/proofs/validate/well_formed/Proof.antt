@@ -82,15 +82,21 @@ returns-9 c =
       same-nothing,
       ne-eqb _ _ (c .before .before .before .before .before .before .before .before .before .before .before .before .before .before .before .before .before .before .before .if1 .left),
       ← c .before .before .before .before .before .before .before .before .before .before .before .before .before .before .before .before .before .before .no-dot-begins .ensures,
-      not-false (c .before .before .before .before .before .before .before .before .before .before .before .before .before .before .before .before .before .before .no-dot-begins .result) (c .before .before .before .before .before .before .before .before .before .before .before .before .before .before .before .before .before .if2 .left),
+      not-false
+          (c .before .before .before .before .before .before .before .before .before .before .before .before .before .before .before .before .before .before .no-dot-begins .result)
+          (c .before .before .before .before .before .before .before .before .before .before .before .before .before .before .before .before .before .if2 .left),
       ← c .before .before .before .before .before .before .before .before .before .before .before .before .before .before .before .before .no-lock-ends .ensures,
-      not-false (c .before .before .before .before .before .before .before .before .before .before .before .before .before .before .before .before .no-lock-ends .result) (c .before .before .before .before .before .before .before .before .before .before .before .before .before .before .before .if3 .left),
+      not-false
+          (c .before .before .before .before .before .before .before .before .before .before .before .before .before .before .before .before .no-lock-ends .result)
+          (c .before .before .before .before .before .before .before .before .before .before .before .before .before .before .before .if3 .left),
       ← c .before .before .before .before .before .before .before .before .before .before .before .before .before .contains .ensures,
       c .before .before .before .before .before .before .before .before .before .before .before .before .if4 .left,
       ← c .before .before .before .before .before .before .before .before .before .before .before .all-allowed .ensures,
-      not-false (c .before .before .before .before .before .before .before .before .before .before .before .all-allowed .result) (c .before .before .before .before .before .before .before .before .before .before .if5 .left),
+      not-false (c .before .before .before .before .before .before .before .before .before .before .before .all-allowed .result)
+          (c .before .before .before .before .before .before .before .before .before .before .if5 .left),
       ← c .before .before .before .before .before .before .before .before .before .slashes-right .ensures,
-      not-false (c .before .before .before .before .before .before .before .before .before .slashes-right .result) (c .before .before .before .before .before .before .before .before .if6 .left),
+      not-false (c .before .before .before .before .before .before .before .before .before .slashes-right .result)
+          (c .before .before .before .before .before .before .before .before .if6 .left),
       ← c .before .before .before .before .before .before .ends-with .ensures,
       c .before .before .before .before .before .if7 .left,
       ← c .before .before .before .contains2 .ensures,

@@ -5,8 +5,8 @@ use borrow.Author.Tests.{not-false, not-true}
 use Rattle.names.specs.Bytes.{strip}
 use Rattle.names.proofs.Parts.{tail-part}
 use Rattle.names.proofs.Prefix.{starts-length}
-use Rattle.names.proofs.fullname.without.Statement.{statement}
-use Rattle.names.proofs.fullname.without.Tie as tie
+use Rattle.names.proofs.bytes.without.Statement.{statement}
+use Rattle.names.proofs.bytes.without.Tie as tie
 
 starts-with-requires : tie.Need-starts-with-requires
 starts-with-requires c κs = search needs
@@ -17,11 +17,11 @@ returns c = rw (← c .before .starts-with .ensures, not-true (c .before .starts
 
 sub-result : tie.Need-sub-result
 sub-result c =
-    starts-length (c .before .before .before .before .args .word .now) (c .before .before .before .before .args .s .now) (sym (c .before .starts-with .ensures) ∙ not-false (c .before .starts-with .result) (c .if1 .left))
+    starts-length (c .before .before .before .before .args .p .now) (c .before .before .before .before .args .s .now)
+    (sym (c .before .starts-with .ensures) ∙ not-false (c .before .starts-with .result) (c .if1 .left))
 
 part-result-start : tie.Need-part-result-start
-part-result-start c =
-    starts-length (c .before .before .before .before .args .word .now) (c .before .before .before .before .args .s .now) (sym (c .before .starts-with .ensures) ∙ not-false (c .before .starts-with .result) (c .if1 .left))
+part-result-start c = sub-result c
 
 part-result-end : tie.Need-part-result-end
 part-result-end c = search needs
