@@ -1,3 +1,4 @@
+-- By region.
 use borrow.Author.Needs.{needs}
 use Rattle.capi.proofs.cosvint_region_flaw.Statement.{statement}
 use Rattle.capi.proofs.cosvint_region_flaw.Tie as tie

@@ -1,3 +1,4 @@
+-- Each test is one part of the definition.
 use borrow.Author.Tests.{not-true, not-false}
 use borrow.Author.Needs.{needs}
 use Rattle.blocks.proofs.fitness.are_not_too_many.Statement.{statement}

@@ -1,3 +1,4 @@
+-- The earlier row first.
 use borrow.Author.Tests.{not-true, not-false}
 use Rattle.blocks.specs.Snapshot.{size-check}
 use borrow.Author.Needs.{needs}
