@@ -1,11 +1,10 @@
 -- Names that were made, where the bytes fit.
 use mathlib.Core.Path.{_≡_, refl, sym, _∙_}
-use Prim.Native.Nat.{ℕ, _≤_}
+use Prim.Native.Nat.{_≤_}
 use native.Mathlib.Omega.{arith}
 use mathlib.Core.Bool.{Bool, true, false}
 use mathlib.Core.List.{_++_}
-use mathlib.Core.Option.{Option, none, some}
-use lib.Dec.{leb}
+use mathlib.Core.Option.{none, some}
 use lib.ListN.{length, length-append}
 use borrow.Author.Tests.{leb-false, lt-leb}
 use Rattle.names.specs.Bytes.{Bytes, if_then_else_}
@@ -13,7 +12,7 @@ use Rattle.names.specs.Name.{longest, fits}
 use Rattle.names.specs.Candidates.{full-name}
 use Rattle.names.specs.Means.{content, made-name, if-fits}
 use Rattle.names.specs.declared.name.Made.{Made}
-use Rattle.names.proofs.Tests.{none≢some, not-both}
+use Rattle.names.proofs.Tests.{none≢some}
 
 both-ok : (k f : Bool) (b s : Bytes) → (if k then some b else none) ≡ (if f then some s else none) → k ≡ f
 both-ok true true b s e = refl

@@ -21,3 +21,7 @@ take-measured (suc l) (x ∷ b) = ap (λ (t : Bytes). x ∷ t) (take-measured l 
 pub part-is : (b : Bytes) (l k : ℕ) → k ≡ length (held b l) → take k b ≡ held b l
 unfolding held
 part-is b l k e = rw e (take-measured l b)
+
+pub held-size : (b : Bytes) (l k : ℕ) → k ≡ length (held b l) → held b k ≡ held b l
+unfolding held
+held-size b l k e = part-is b l k e

@@ -6,11 +6,15 @@ use mathlib.Core.Bool.{Bool, true, false, false≢true}
 use mathlib.Core.Option.{Option, none, some}
 use mathlib.Core.Logic.{_⊎_, inl, inr}
 use lib.Dec.{eqb}
-use lib.ListN.{drop}
+use lib.ListN.{take, drop}
 use Rattle.names.specs.Bytes.{Bytes, bytes, if_then_else_, starts-with}
 use Rattle.names.specs.Name.{is-pseudo, under-refs}
 use Rattle.names.specs.Category.{Category, Tag, LocalBranch, RemoteBranch, Note, Bisect, PseudoRef, MainPseudoRef, MainRef, LinkedRef, LinkedPseudoRef, WorktreePrivate, Rewritten, Class, first-slash, classify-below, classify-linked, classify, category-in, off-in, category, short-name, private-category, is-private}
 use Rattle.names.specs.Route.{own, shared, Place, at, route-as, route, packed-as, packed-name}
+use Rattle.names.specs.Means.{category-with, class-of}
+use Rattle.names.specs.declared.fullname.Category as code-category
+use Rattle.names.specs.declared.fullname.Class as code
+use Rattle.names.specs.declared.fullname.Class.the-variants.{As, Unclassified}
 use Rattle.names.proofs.Tests.{if-case, false-of, not-both, and-left}
 use Rattle.names.proofs.Prefix.{other-start}
 
@@ -151,3 +155,24 @@ module _ {c : Bytes} where
   placed-packed n (own-only h) e v = cc
   placed-packed n (apart-packed {q = q} _ h) e v = let d : q ≡ n = cc in not-both (rw d at h) v
   placed-packed n (apart _ h) e v = cc
+
+-- ---- by the code's class of the name
+
+module _ (s : Bytes) (k : code.Class) (e : class-of s k ≡ classify s) where
+  module _ (c : code-category.Category) (off : ℕ) (told : k ≡ As c off) where
+    pub route-class : route s ≡ route-as (some (category-with (λ j. take j (drop 10 s)) c)) s (drop off s)
+    unfolding route category short-name
+    route-class = rw (← e, told)
+
+    pub packed-class : packed-name s ≡ packed-as (some (category-with (λ j. take j (drop 10 s)) c)) s (drop off s)
+    unfolding packed-name category short-name
+    packed-class = rw (← e, told)
+
+  module _ (told : k ≡ Unclassified) where
+    pub route-none : route s ≡ at shared s
+    unfolding route route-as category
+    route-none = rw (← e, told)
+
+    pub packed-none : packed-name s ≡ some s
+    unfolding packed-name packed-as category
+    packed-none = rw (← e, told)

@@ -11,7 +11,9 @@ compare-requires : tie.Need-compare-requires
 compare-requires c κs = search needs
 
 returns : tie.Need-returns
-returns c = c .compare .ensures ∙ sym (order-within (c .before .before .before .before .before .args .s .now) (c .before .before .before .before .before .args .e .now) (c .before .before .before .before .before .args .n .now) (c .before .if1 .taken))
+returns c =
+    let args = c .before .before .before .before .before .args in
+    c .compare .ensures ∙ sym (order-within (args .s .now) (args .e .now) (args .n .now) (c .before .if1 .taken))
 
 sub-compare : tie.Need-sub-compare
 sub-compare c = search needs
@@ -47,13 +49,32 @@ enum-told-3 : tie.Need-enum-told-3
 enum-told-3 c = search needs
 
 returns-2 : tie.Need-returns-2
-returns-2 c = rw (order-across (c .before .before .before .before .before .before .before .before .args .s .now) (c .before .before .before .before .before .before .before .before .args .e .now) (c .before .before .before .before .before .before .before .before .args .n .now) (c .before .before .before .before .if1 .left), ← (rw sub-zero at (c .before .before .compare2 .ensures)), c .enum-told .given .1)
+returns-2 c =
+    let args = c .before .before .before .before .before .before .before .before .args in
+    rw (
+      order-across (args .s .now) (args .e .now) (args .n .now) (c .before .before .before .before .if1 .left),
+      ← (rw sub-zero at (c .before .before .compare2 .ensures)),
+      c .enum-told .given .1,
+    )
 
 returns-3 : tie.Need-returns-3
-returns-3 c = rw (order-across (c .before .before .before .before .before .before .before .before .before .before .args .s .now) (c .before .before .before .before .before .before .before .before .before .before .args .e .now) (c .before .before .before .before .before .before .before .before .before .before .args .n .now) (c .before .before .before .before .before .before .if1 .left), ← (rw sub-zero at (c .before .before .before .before .compare2 .ensures)), c .before .before .enum-told2 .given .1) (c .compare3 .ensures ∙ rw tail-part)
+returns-3 c =
+    let args = c .before .before .before .before .before .before .before .before .before .before .args in
+    rw (
+      order-across (args .s .now) (args .e .now) (args .n .now) (c .before .before .before .before .before .before .if1 .left),
+      ← (rw sub-zero at (c .before .before .before .before .compare2 .ensures)),
+      c .before .before .enum-told2 .given .1,
+    )
+    (c .compare3 .ensures ∙ rw tail-part)
 
 returns-4 : tie.Need-returns-4
-returns-4 c = rw (order-across (c .before .before .before .before .before .before .before .before .args .s .now) (c .before .before .before .before .before .before .before .before .args .e .now) (c .before .before .before .before .before .before .before .before .args .n .now) (c .before .before .before .before .if1 .left), ← (rw sub-zero at (c .before .before .compare2 .ensures)), c .enum-told3 .given .1)
+returns-4 c =
+    let args = c .before .before .before .before .before .before .before .before .args in
+    rw (
+      order-across (args .s .now) (args .e .now) (args .n .now) (c .before .before .before .before .if1 .left),
+      ← (rw sub-zero at (c .before .before .compare2 .ensures)),
+      c .enum-told3 .given .1,
+    )
 
 pub compare-joined-spec : {M : Type 1} → statement M
 compare-joined-spec =

@@ -4,7 +4,7 @@ use Prim.Native.Nat.{_-_, _≤_}
 use native.Mathlib.Omega.{arith}
 use lib.ListN.{drop, length}
 use borrow.Author.Needs.{needs}
-use Rattle.names.specs.Bytes.{contains, starts-with}
+use Rattle.names.specs.Bytes.{contains}
 use Rattle.names.proofs.Parts.{tail-part}
 use Rattle.names.proofs.Prefix.{starts-nothing}
 use Rattle.names.proofs.Walks.{contains-at, contains-end}
@@ -33,7 +33,16 @@ starts-with-requires : tie.Need-starts-with-requires Inv-loop μ-loop
 starts-with-requires c κs = search needs
 
 returns : tie.Need-returns Inv-loop μ-loop
-returns c = rw (c .before .before .before .before .loop .inv .1, contains-at (c .before .before .before .before .before .before .before .args .s .now) (c .before .before .before .before .loop .i) (omega arith) (c .before .before .before .before .before .before .before .args .p .now), ← tail-part (c .before .before .before .before .before .before .before .args .s .now) (c .before .before .before .before .loop .i), ← c .before .starts-with .ensures, c .if1 .taken)
+returns c =
+    let args = c .before .before .before .before .before .before .before .args in
+    let loop = c .before .before .before .before .loop in
+    rw (
+      loop .inv .1,
+      contains-at (args .s .now) (loop .i) (omega arith) (args .p .now),
+      ← tail-part (args .s .now) (loop .i),
+      ← c .before .starts-with .ensures,
+      c .if1 .taken,
+    )
 
 add-i : tie.Need-add-i Inv-loop μ-loop
 add-i c = search needs
@@ -42,10 +51,18 @@ loop-less : tie.Need-loop-less Inv-loop μ-loop
 loop-less c = search needs
 
 loop-again : tie.Need-loop-again Inv-loop μ-loop
-loop-again c = (omega arith, rw (c .before .before .before .before .loop .inv .1, contains-at (c .before .before .before .before .before .before .before .args .s .now) (c .before .before .before .before .loop .i) (omega arith) (c .before .before .before .before .before .before .before .args .p .now), ← tail-part (c .before .before .before .before .before .before .before .args .s .now) (c .before .before .before .before .loop .i), ← c .before .starts-with .ensures, c .if1 .left))
+loop-again c =
+    let args = c .before .before .before .before .before .before .before .args in
+    let loop = c .before .before .before .before .loop in
+    (omega arith, rw (loop .inv .1, contains-at (args .s .now) (loop .i) (omega arith) (args .p .now), ← tail-part (args .s .now) (loop .i), ← c .before .starts-with .ensures, c .if1 .left))
 
 returns-2 : tie.Need-returns-2 Inv-loop μ-loop
-returns-2 c = rw (c .before .loop .inv .1, contains-end (c .before .before .before .before .args .s .now) (c .before .loop .i) (omega arith) (c .before .before .before .before .args .p .now), starts-nothing)
+returns-2 c =
+    rw (
+      c .before .loop .inv .1,
+      contains-end (c .before .before .before .before .args .s .now) (c .before .loop .i) (omega arith) (c .before .before .before .before .args .p .now),
+      starts-nothing,
+    )
 
 pub contains-spec : {M : Type 1} → statement M
 contains-spec =

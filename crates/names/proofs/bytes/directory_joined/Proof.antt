@@ -2,7 +2,6 @@
 use mathlib.Core.Path.{_∙_, sym}
 use borrow.Author.Needs.{needs}
 use borrow.Author.Tests.{not-false, not-true}
-use Rattle.names.specs.Bytes.{starts-with}
 use Rattle.names.proofs.Parts.{tail-part}
 use Rattle.names.proofs.Prefix.{directory-across, directory-within}
 use Rattle.names.proofs.bytes.directory_joined.Statement.{statement}
@@ -12,13 +11,21 @@ directory-of-requires : tie.Need-directory-of-requires
 directory-of-requires c κs = search needs
 
 returns : tie.Need-returns
-returns c = c .directory-of .ensures ∙ sym (directory-within (c .before .before .before .before .before .args .s .now) (c .before .before .before .before .before .args .e .now) (c .before .before .before .before .before .args .n .now) (c .before .if1 .taken))
+returns c =
+    let args = c .before .before .before .before .before .args in
+    c .directory-of .ensures ∙ sym (directory-within (args .s .now) (args .e .now) (args .n .now) (c .before .if1 .taken))
 
 starts-with-requires : tie.Need-starts-with-requires
 starts-with-requires c κs = search needs
 
 returns-2 : tie.Need-returns-2
-returns-2 c = rw (directory-across (c .before .before .before .before .before .before .args .s .now) (c .before .before .before .before .before .before .args .e .now) (c .before .before .before .before .before .before .args .n .now) (c .before .before .if1 .left), ← c .before .starts-with .ensures, not-true (c .before .starts-with .result) (c .if2 .taken))
+returns-2 c =
+    let args = c .before .before .before .before .before .before .args in
+    rw (
+      directory-across (args .s .now) (args .e .now) (args .n .now) (c .before .before .if1 .left),
+      ← c .before .starts-with .ensures,
+      not-true (c .before .starts-with .result) (c .if2 .taken),
+    )
 
 sub-directory-of : tie.Need-sub-directory-of
 sub-directory-of c = search needs
@@ -33,7 +40,14 @@ directory-of-requires-2 : tie.Need-directory-of-requires-2
 directory-of-requires-2 c κs = search needs
 
 returns-3 : tie.Need-returns-3
-returns-3 c = rw (directory-across (c .before .before .before .before .before .before .before .before .args .s .now) (c .before .before .before .before .before .before .before .before .args .e .now) (c .before .before .before .before .before .before .before .before .args .n .now) (c .before .before .before .before .if1 .left), ← c .before .before .before .starts-with .ensures, not-false (c .before .before .before .starts-with .result) (c .before .before .if2 .left)) (c .directory-of2 .ensures ∙ rw tail-part)
+returns-3 c =
+    let args = c .before .before .before .before .before .before .before .before .args in
+    rw (
+      directory-across (args .s .now) (args .e .now) (args .n .now) (c .before .before .before .before .if1 .left),
+      ← c .before .before .before .starts-with .ensures,
+      not-false (c .before .before .before .starts-with .result) (c .before .before .if2 .left),
+    )
+    (c .directory-of2 .ensures ∙ rw tail-part)
 
 pub directory-joined-spec : {M : Type 1} → statement M
 directory-joined-spec =

@@ -25,7 +25,9 @@ equal-requires : tie.Need-equal-requires
 equal-requires c κs = search needs
 
 returns-2 : tie.Need-returns-2
-returns-2 c = c .equal .ensures ∙ rw (tail-part, ends-at (c .before .before .before .before .before .args .p .now) (c .before .before .before .before .before .args .s .now) (c .before .before .if1 .left))
+returns-2 c =
+    let args = c .before .before .before .before .before .args in
+    c .equal .ensures ∙ rw (tail-part, ends-at (args .p .now) (args .s .now) (c .before .before .if1 .left))
 
 pub ends-with-spec : {M : Type 1} → statement M
 ends-with-spec =

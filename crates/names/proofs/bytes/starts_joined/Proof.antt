@@ -3,7 +3,6 @@ use mathlib.Core.Path.{_∙_, sym}
 use native.Mathlib.Omega.{arith}
 use borrow.Author.Needs.{needs}
 use borrow.Author.Tests.{not-false, not-true}
-use Rattle.names.specs.Bytes.{starts-with}
 use Rattle.names.proofs.Parts.{tail-part}
 use Rattle.names.proofs.Prefix.{starts-across, starts-within}
 use Rattle.names.proofs.bytes.starts_joined.Statement.{statement}
@@ -13,13 +12,21 @@ starts-with-requires : tie.Need-starts-with-requires
 starts-with-requires c κs = search needs
 
 returns : tie.Need-returns
-returns c = c .starts-with .ensures ∙ sym (starts-within (c .before .before .before .before .before .args .s .now) (c .before .before .before .before .before .args .e .now) (c .before .before .before .before .before .args .n .now) (omega arith))
+returns c =
+    let args = c .before .before .before .before .before .args in
+    c .starts-with .ensures ∙ sym (starts-within (args .s .now) (args .e .now) (args .n .now) (omega arith))
 
 starts-with-requires-2 : tie.Need-starts-with-requires-2
 starts-with-requires-2 c κs = search needs
 
 returns-2 : tie.Need-returns-2
-returns-2 c = rw (starts-across (c .before .before .before .before .before .before .args .s .now) (c .before .before .before .before .before .before .args .e .now) (c .before .before .before .before .before .before .args .n .now) (c .before .before .if1 .left), ← c .before .starts-with2 .ensures, not-true (c .before .starts-with2 .result) (c .if2 .taken))
+returns-2 c =
+    let args = c .before .before .before .before .before .before .args in
+    rw (
+      starts-across (args .s .now) (args .e .now) (args .n .now) (c .before .before .if1 .left),
+      ← c .before .starts-with2 .ensures,
+      not-true (c .before .starts-with2 .result) (c .if2 .taken),
+    )
 
 sub-starts-with : tie.Need-sub-starts-with
 sub-starts-with c = search needs
@@ -34,7 +41,14 @@ starts-with-requires-3 : tie.Need-starts-with-requires-3
 starts-with-requires-3 c κs = search needs
 
 returns-3 : tie.Need-returns-3
-returns-3 c = rw (starts-across (c .before .before .before .before .before .before .before .before .args .s .now) (c .before .before .before .before .before .before .before .before .args .e .now) (c .before .before .before .before .before .before .before .before .args .n .now) (c .before .before .before .before .if1 .left), ← c .before .before .before .starts-with2 .ensures, not-false (c .before .before .before .starts-with2 .result) (c .before .before .if2 .left)) (c .starts-with3 .ensures ∙ rw tail-part)
+returns-3 c =
+    let args = c .before .before .before .before .before .before .before .before .args in
+    rw (
+      starts-across (args .s .now) (args .e .now) (args .n .now) (c .before .before .before .before .if1 .left),
+      ← c .before .before .before .starts-with2 .ensures,
+      not-false (c .before .before .before .starts-with2 .result) (c .before .before .if2 .left),
+    )
+    (c .starts-with3 .ensures ∙ rw tail-part)
 
 pub starts-joined-spec : {M : Type 1} → statement M
 starts-joined-spec =

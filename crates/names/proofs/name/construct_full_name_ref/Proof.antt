@@ -20,8 +20,9 @@ join-requires c κs = search needs
 returns : tie.Need-returns
 unfolding full-name
 returns c =
+    let args = c .before .before .before .before .before .before .args in
     rw (← append-assoc, ← c .before .before .before .looks-like-full-name .ensures, ← c .before .before .front .ensures)
-    (made-refused (c .before .join .result) (content (c .before .before .front .result) ++ c .before .before .before .before .before .before .args .inbetween .now) (c .before .join .ensures) (c .before .before .before .before .before .before .args .x .now) (not-true (c .before .join .result .ok) (c .if1 .taken)))
+    (made-refused (c .before .join .result) (content (c .before .before .front .result) ++ args .inbetween .now) (c .before .join .ensures) (args .x .now) (not-true (c .before .join .result .ok) (c .if1 .taken)))
 
 join-requires-2 : tie.Need-join-requires-2
 join-requires-2 c κs = search needs
@@ -29,8 +30,9 @@ join-requires-2 c κs = search needs
 returns-2 : tie.Need-returns-2
 unfolding full-name
 returns-2 c =
+    let args = c .before .before .before .before .before .before .before .before .args in
     rw (← append-assoc, ← c .before .before .before .before .before .looks-like-full-name .ensures, ← c .before .before .before .before .front .ensures)
-    (made-behind (c .before .before .before .join .result) (content (c .before .before .before .before .front .result) ++ c .before .before .before .before .before .before .before .before .args .inbetween .now) (c .before .before .before .join .ensures) (c .join2 .result) (c .before .before .before .before .before .before .before .before .args .x .now) (not-false (c .before .before .before .join .result .ok) (c .before .before .if1 .left)) (c .join2 .ensures))
+    (made-behind (c .before .before .before .join .result) (content (c .before .before .before .before .front .result) ++ args .inbetween .now) (c .before .before .before .join .ensures) (c .join2 .result) (args .x .now) (not-false (c .before .before .before .join .result .ok) (c .before .before .if1 .left)) (c .join2 .ensures))
 
 pub construct-full-name-ref-spec : {M : Type 1} → statement M
 construct-full-name-ref-spec =

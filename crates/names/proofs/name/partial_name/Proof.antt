@@ -2,7 +2,6 @@
 use borrow.Author.Needs.{needs}
 use borrow.Author.Tests.{not-false, not-true}
 use Rattle.names.specs.Namespace.{names-check}
-use Rattle.names.specs.WellFormed.{well-formed}
 use Rattle.names.proofs.Held.{made-is, made-ok}
 use Rattle.names.proofs.name.partial_name.Statement.{statement}
 use Rattle.names.proofs.name.partial_name.Tie as tie
@@ -12,7 +11,11 @@ from-bytes-requires c κs = search needs
 
 returns : tie.Need-returns
 unfolding names-check
-returns c = rw (← made-ok (c .before .before .from-bytes .result) (c .before .before .before .before .args .s .now) (c .before .before .from-bytes .ensures), not-true (c .before .before .from-bytes .result .ok) (c .if1 .taken))
+returns c =
+    rw (
+      ← made-ok (c .before .before .from-bytes .result) (c .before .before .before .before .args .s .now) (c .before .before .from-bytes .ensures),
+      not-true (c .before .before .from-bytes .result .ok) (c .if1 .taken),
+    )
 
 well-formed-requires : tie.Need-well-formed-requires
 well-formed-requires c κs = search needs
@@ -30,13 +33,14 @@ returns-2 c =
 returns-3 : tie.Need-returns-3
 unfolding names-check
 returns-3 c =
+    let args = c .before .before .before .before .before .before .args in
     let k = not-false (c .before .before .before .before .from-bytes .result .ok) (c .before .before .if1 .left) in
     rw (
-      ← made-ok (c .before .before .before .before .from-bytes .result) (c .before .before .before .before .before .before .args .s .now) (c .before .before .before .before .from-bytes .ensures),
+      ← made-ok (c .before .before .before .before .from-bytes .result) (args .s .now) (c .before .before .before .before .from-bytes .ensures),
       k,
       ← c .before .well-formed .ensures,
       not-false (c .before .well-formed .result) (c .if2 .left),
-      made-is (c .before .before .before .before .from-bytes .result) (c .before .before .before .before .before .before .args .s .now) (c .before .before .before .before .from-bytes .ensures) k,
+      made-is (c .before .before .before .before .from-bytes .result) (args .s .now) (c .before .before .before .before .from-bytes .ensures) k,
     )
 
 pub partial-name-spec : {M : Type 1} → statement M

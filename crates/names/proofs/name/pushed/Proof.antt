@@ -6,7 +6,6 @@ use native.Mathlib.Omega.{arith}
 use lib.ListN.{length}
 use lib.Seq.{paste, paste-suc, paste-zero, take-length, take-paste}
 use borrow.Author.Needs.{needs}
-use Rattle.names.specs.Bytes.{bytes}
 use Rattle.names.specs.Means.{held}
 use Rattle.names.specs.Name.{longest}
 use Rattle.names.proofs.Parts.{part-is}
@@ -23,7 +22,8 @@ size-requires : tie.Need-size-requires Inv-loop μ-loop
 size-requires c κs = search needs
 
 loop-holds : tie.Need-loop-holds Inv-loop μ-loop
-loop-holds c = (omega arith, paste-zero (c .before .before .before .args .n .bytes) (c .before .size .result) (c .before .before .before .args .s .now), c .before .size .ensures .held)
+loop-holds c =
+    (omega arith, paste-zero (c .before .before .before .args .n .bytes) (c .before .size .result) (c .before .before .before .args .s .now), c .before .size .ensures .held)
 
 shared-slice-read-b : tie.Need-shared-slice-read-b Inv-loop μ-loop
 shared-slice-read-b c = search needs
@@ -41,11 +41,16 @@ loop-less : tie.Need-loop-less Inv-loop μ-loop
 loop-less c = search needs
 
 loop-again : tie.Need-loop-again Inv-loop μ-loop
-loop-again c = (
-  omega arith,
-  rw (c .before .before .loop .inv .1, add-one, ← paste-suc (c .before .before .before .before .before .before .args .n .bytes) (c .before .before .before .before .size .result) (c .before .before .before .before .before .before .args .s .now) (c .before .before .loop .j) 0 (omega arith) (c .before .loop-test .taken)),
-  c .before .before .loop .inv .2,
-)
+loop-again c =
+    let args = c .before .before .before .before .before .before .args in (
+      omega arith,
+      rw (
+        c .before .before .loop .inv .1,
+        add-one,
+        ← paste-suc (args .n .bytes) (c .before .before .before .before .size .result) (args .s .now) (c .before .before .loop .j) 0 (omega arith) (c .before .loop-test .taken),
+      ),
+      c .before .before .loop .inv .2,
+    )
 
 add-t13 : tie.Need-add-t13 Inv-loop μ-loop
 add-t13 c = omega arith
@@ -53,8 +58,15 @@ add-t13 c = omega arith
 returns : tie.Need-returns Inv-loop μ-loop
 unfolding held
 returns c =
-    let e : c .before .loop .j ≡ length (c .before .before .before .before .before .args .s .now) = omega arith in
-    rw (c .before .loop .inv .1, take-paste (c .before .before .before .before .before .args .n .bytes) (c .before .before .before .size .result) (c .before .before .before .before .before .args .s .now) (c .before .loop .j) (omega arith) (omega arith), e, take-length, part-is (c .before .before .before .before .before .args .n .bytes) (c .before .before .before .before .before .args .n .len) (c .before .before .before .size .result) (c .before .before .before .size .ensures .is))
+    let args = c .before .before .before .before .before .args in
+    let e : c .before .loop .j ≡ length (args .s .now) = omega arith in
+    rw (
+      c .before .loop .inv .1,
+      take-paste (args .n .bytes) (c .before .before .before .size .result) (args .s .now) (c .before .loop .j) (omega arith) (omega arith),
+      e,
+      take-length,
+      part-is (args .n .bytes) (args .n .len) (c .before .before .before .size .result) (c .before .before .before .size .ensures .is),
+    )
 
 pub pushed-spec : {M : Type 1} → statement M
 pushed-spec =

@@ -27,7 +27,13 @@ allowed-byte-requires : tie.Need-allowed-byte-requires Inv-loop μ-loop
 allowed-byte-requires c κs = search needs
 
 returns : tie.Need-returns Inv-loop μ-loop
-returns c = rw (c .before .before .before .before .loop .inv .1, every-at (c .before .before .before .before .before .before .args .s .now) (c .before .before .before .before .loop .i) (omega arith) allowed, ← c .before .allowed-byte .ensures, not-true (c .before .allowed-byte .result) (c .if1 .taken))
+returns c =
+    rw (
+      c .before .before .before .before .loop .inv .1,
+      every-at (c .before .before .before .before .before .before .args .s .now) (c .before .before .before .before .loop .i) (omega arith) allowed,
+      ← c .before .allowed-byte .ensures,
+      not-true (c .before .allowed-byte .result) (c .if1 .taken),
+    )
 
 add-i : tie.Need-add-i Inv-loop μ-loop
 add-i c = search needs
@@ -36,7 +42,8 @@ loop-less : tie.Need-loop-less Inv-loop μ-loop
 loop-less c = search needs
 
 loop-again : tie.Need-loop-again Inv-loop μ-loop
-loop-again c = (omega arith, rw (c .before .before .before .before .loop .inv .1, every-at (c .before .before .before .before .before .before .args .s .now) (c .before .before .before .before .loop .i) (omega arith) allowed, ← c .before .allowed-byte .ensures, not-false (c .before .allowed-byte .result) (c .if1 .left)))
+loop-again c =
+    (omega arith, rw (c .before .before .before .before .loop .inv .1, every-at (c .before .before .before .before .before .before .args .s .now) (c .before .before .before .before .loop .i) (omega arith) allowed, ← c .before .allowed-byte .ensures, not-false (c .before .allowed-byte .result) (c .if1 .left)))
 
 returns-2 : tie.Need-returns-2 Inv-loop μ-loop
 returns-2 c = rw (c .before .loop .inv .1, every-end (c .before .before .before .args .s .now) (c .before .loop .i) (omega arith) allowed)

@@ -1,6 +1,5 @@
 -- Each test is one of the rule's two parts.
 use borrow.Author.Needs.{needs}
-use Rattle.names.specs.Bytes.{contains, starts-with}
 use Rattle.names.proofs.validate.no_dot_begins.Statement.{statement}
 use Rattle.names.proofs.validate.no_dot_begins.Tie as tie
 

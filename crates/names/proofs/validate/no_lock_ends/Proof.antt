@@ -1,6 +1,5 @@
 -- Each test is one of the rule's two parts.
 use borrow.Author.Needs.{needs}
-use Rattle.names.specs.Bytes.{contains, ends-with}
 use Rattle.names.proofs.validate.no_lock_ends.Statement.{statement}
 use Rattle.names.proofs.validate.no_lock_ends.Tie as tie
 

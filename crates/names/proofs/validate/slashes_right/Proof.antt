@@ -1,6 +1,5 @@
 -- Each test is one of the rule's three parts.
 use borrow.Author.Needs.{needs}
-use Rattle.names.specs.Bytes.{contains, ends-with, starts-with}
 use Rattle.names.proofs.validate.slashes_right.Statement.{statement}
 use Rattle.names.proofs.validate.slashes_right.Tie as tie
 
@@ -29,7 +28,14 @@ contains-requires : tie.Need-contains-requires
 contains-requires c κs = search needs
 
 returns-3 : tie.Need-returns-3
-returns-3 c = rw (← c .before .before .before .before .before .before .starts-with .ensures, c .before .before .before .before .before .if1 .left, ← c .before .before .before .ends-with .ensures, c .before .before .if2 .left, ← c .contains .ensures)
+returns-3 c =
+    rw (
+      ← c .before .before .before .before .before .before .starts-with .ensures,
+      c .before .before .before .before .before .if1 .left,
+      ← c .before .before .before .ends-with .ensures,
+      c .before .before .if2 .left,
+      ← c .contains .ensures,
+    )
 
 pub slashes-right-spec : {M : Type 1} → statement M
 slashes-right-spec =
