@@ -19,7 +19,9 @@ use Rattle.names.specs.declared.name.Refusal.the-variants.{TooLong, Malf
 use Rattle.names.specs.declared.name.Verdict.{Verdict}
 use Rattle.names.specs.declared.name.Verdict.the-variants.{Accepted, Refused}
 use Rattle.names.specs.declared.name.CheckedPartial.{CheckedPartial}
+use Rattle.names.specs.declared.fullname.FullName.{FullName}
 use Rattle.names.specs.declared.fullname.CheckedFull.{CheckedFull}
+use Rattle.names.specs.declared.namespace.Namespace.{Namespace}
 use Rattle.names.specs.declared.namespace.CheckedNamespace.{CheckedNamespace}
 use Rattle.names.specs.declared.find.Base as code-base
 use Rattle.names.specs.declared.find.Base.the-variants.{Own, Shared}
@@ -33,6 +35,7 @@ use Rattle.names.specs.declared.fullname.Category.the-variants as varian
 use Rattle.names.specs.declared.fullname.Class as code-class
 use Rattle.names.specs.declared.fullname.Class.the-variants.{As, Unclassified}
 
+-- the answer of a comparison
 abbrev pub ordering : Order → Ordering
 ordering Less = Ordering·lt
 ordering Equal = Ordering·eq
@@ -47,6 +50,16 @@ held b len = take len b
 -- the bytes that a name stands for
 abbrev pub content : Name → Bytes
 content n = held (n .bytes) (n .len)
+
+abbrev pub partial-content : PartialName → Bytes
+partial-content n = content (n .0)
+
+abbrev pub full-content : FullName → Bytes
+full-content n = content (n .0)
+
+-- a namespace holds its expansion
+abbrev pub expansion-content : Namespace → Bytes
+expansion-content n = content (n .0)
 
 -- what a name's size tells
 pub record SizeOf (n : Name) (r : ℕ) : Type 0 where
@@ -64,31 +77,34 @@ if-fits s = if fits s then some s else none
 
 -- ---- checks
 
--- the number of a refusal
+-- the number of a refusal, in document 01's table
 abbrev pub number : Refusal → ℕ
 number TooLong = 3
 number Malformed = 4
 number ExpansionTooLong = 5
 
+-- a verdict as a check
 abbrev pub check-of : Verdict → Check
 check-of Accepted = none
 check-of (Refused r) = some (number r)
 
+-- names that were checked: the bytes, or the number
 abbrev pub checked-partial : CheckedPartial → Checked Bytes
-checked-partial r = checked (check-of (r .verdict)) (content (r .name .0))
+checked-partial r = checked (check-of (r .verdict)) (partial-content (r .name))
 
 abbrev pub checked-full : CheckedFull → Checked Bytes
-checked-full r = checked (check-of (r .verdict)) (content (r .name .0))
+checked-full r = checked (check-of (r .verdict)) (full-content (r .name))
 
 abbrev pub checked-namespace : CheckedNamespace → Checked Bytes
-checked-namespace r = checked (check-of (r .verdict)) (content (r .name .0))
+checked-namespace r = checked (check-of (r .verdict)) (expansion-content (r .name))
 
--- 3 "over 250 bytes", 4 "not complete where a complete one is due"
+-- what a full name must be: 3 "over 250 bytes", 4 "not complete where a complete one is due"
 unfoldable pub full-checked : Bytes → Checked Bytes
 full-checked s = checked (unless 3 (fits s) or-else unless 4 (complete s)) s
 
 -- ---- categories
 
+-- where a slash was found
 abbrev pub slash-found : Slash → Option ℕ
 slash-found (At i) = some i
 slash-found Nowhere = none
@@ -108,6 +124,7 @@ category-with w variant.Bisect = Bisect
 category-with w variant.Rewritten = Rewritten
 category-with w variant.WorktreePrivate = WorktreePrivate
 
+-- a class, with the worktree's name told in the same way
 abbrev pub class-with : (ℕ → Bytes) → code-class.Class → Option Class
 class-with w (As c off) = class (category-with w c) off
 class-with w Unclassified = none
@@ -118,6 +135,7 @@ class-of s r = class-with (λ k. take k (after (bytes "worktrees/") s)) r
 
 -- ---- where a name is read
 
+-- the region
 abbrev pub base-of : code-base.Base → Base
 base-of Own = own
 base-of Shared = shared

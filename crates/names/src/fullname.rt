@@ -54,7 +54,7 @@ pub struct CheckedFull {
 }
 
 // Where a slash is.
-pub enum Slash {
+enum Slash {
     At(usize),
     Nowhere,
 }

@@ -1,4 +1,5 @@
 // Names (name.rs): 250 bytes held in a struct, with a length.
+use crate::bytes::equal;
 use crate::bytes::starts_with;
 ghost use mathlib.Core.Path.{_≡_};
 ghost use mathlib.Core.List.{[], _++_};
@@ -6,7 +7,7 @@ ghost use mathlib.Core.Bool.{true};
 ghost use mathlib.Core.Option.{none, some};
 ghost use Prim.Native.Nat.{_+_, _≤_};
 ghost use lib.ListN.{length};
-ghost use Rattle.names.specs.Bytes.{bytes, if_then_else_};
+ghost use Rattle.names.specs.Bytes.{bytes, if_then_else_, same};
 ghost use Rattle.names.specs.Check.{checked};
 ghost use Rattle.names.specs.Name.{longest, pseudo-byte, is-pseudo, looks-full};
 ghost use Rattle.names.specs.Candidates.{full-name};
@@ -124,6 +125,17 @@ pub fn concat(n: Name, m: Name) -> Made
     let b = m.bytes;
     let len = m.len;
     join(n, lend(&b, len))
+}
+
+// Do two names hold the same bytes?
+pub fn same_name(a: Name, b: Name) -> bool
+    ensures { λ r. ⌜ r ≡ same (content a) (content b) ⌝ }
+{
+    let x = a.bytes;
+    let x_len = a.len;
+    let y = b.bytes;
+    let y_len = b.len;
+    equal(lend(&x, x_len), lend(&y, y_len))
 }
 
 fn pseudo_byte(b: u8) -> bool

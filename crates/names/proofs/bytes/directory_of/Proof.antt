@@ -26,8 +26,7 @@ sub-starts-with c =
     starts-length (c .before .before .before .before .args .s .now) (c .before .before .before .before .args .t .now) (sym (c .before .starts-with .ensures) ∙ not-false (c .before .starts-with .result) (c .if1 .left))
 
 part-starts-with-start : tie.Need-part-starts-with-start
-part-starts-with-start c =
-    starts-length (c .before .before .before .before .args .s .now) (c .before .before .before .before .args .t .now) (sym (c .before .starts-with .ensures) ∙ not-false (c .before .starts-with .result) (c .if1 .left))
+part-starts-with-start c = sub-starts-with c
 
 part-starts-with-end : tie.Need-part-starts-with-end
 part-starts-with-end c = search needs

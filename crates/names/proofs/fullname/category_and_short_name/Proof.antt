@@ -169,8 +169,7 @@ sub-classify-below c =
     starts-length (bytes "main-worktree/") (c .before .before .before .before .before .before .before .before .before .before .before .before .before .before .before .before .before .before .before .before .before .before .before .before .before .before .before .args .s .now) (sym (c .before .starts-with8 .ensures) ∙ c .if9 .taken)
 
 part-classify-below-start : tie.Need-part-classify-below-start
-part-classify-below-start c =
-    starts-length (bytes "main-worktree/") (c .before .before .before .before .before .before .before .before .before .before .before .before .before .before .before .before .before .before .before .before .before .before .before .before .before .before .before .args .s .now) (sym (c .before .starts-with8 .ensures) ∙ c .if9 .taken)
+part-classify-below-start c = sub-classify-below c
 
 part-classify-below-end : tie.Need-part-classify-below-end
 part-classify-below-end c = search needs
@@ -194,8 +193,7 @@ sub-classify-linked c =
     starts-length (bytes "worktrees/") (c .before .before .before .before .before .before .before .before .before .before .before .before .before .before .before .before .before .before .before .before .before .before .before .before .before .before .before .before .before .before .args .s .now) (sym (c .before .starts-with9 .ensures) ∙ c .if10 .taken)
 
 part-classify-linked-start : tie.Need-part-classify-linked-start
-part-classify-linked-start c =
-    starts-length (bytes "worktrees/") (c .before .before .before .before .before .before .before .before .before .before .before .before .before .before .before .before .before .before .before .before .before .before .before .before .before .before .before .before .before .before .args .s .now) (sym (c .before .starts-with9 .ensures) ∙ c .if10 .taken)
+part-classify-linked-start c = sub-classify-linked c
 
 part-classify-linked-end : tie.Need-part-classify-linked-end
 part-classify-linked-end c = search needs

@@ -20,8 +20,7 @@ sub-result c =
     starts-length (c .before .before .before .before .args .word .now) (c .before .before .before .before .args .s .now) (sym (c .before .starts-with .ensures) ∙ not-false (c .before .starts-with .result) (c .if1 .left))
 
 part-result-start : tie.Need-part-result-start
-part-result-start c =
-    starts-length (c .before .before .before .before .args .word .now) (c .before .before .before .before .args .s .now) (sym (c .before .starts-with .ensures) ∙ not-false (c .before .starts-with .result) (c .if1 .left))
+part-result-start c = sub-result c
 
 part-result-end : tie.Need-part-result-end
 part-result-end c = search needs
