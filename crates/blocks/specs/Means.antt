@@ -160,9 +160,6 @@ if-there false s = none
 abbrev pub snapshot-of : Bytes → Option Bytes → Bytes → Snapshot
 snapshot-of w c p = record { worktree = w; common = c; packed = p }
 
-abbrev pub three : (Bytes → Bool) → Bytes → Bytes → Bytes → Bool
-three f w c p = f w && f c && f p
-
 abbrev pub sizes-check : Sizes → Check
 sizes-check Right = none
 sizes-check NotWhole = some 1

@@ -1,13 +1,13 @@
 // Sizes and fitness for search of a snapshot's regions.
 ghost use mathlib.Core.Path.{_≡_};
-ghost use mathlib.Core.Bool.{not};
+ghost use mathlib.Core.Bool.{_&&_, not};
 ghost use mathlib.Core.Option.{some};
 ghost use Prim.Native.Nat.{_<_};
 ghost use Rattle.names.specs.Means.{ordering};
 ghost use Rattle.blocks.specs.Entry.{entry, entries};
 ghost use Rattle.blocks.specs.Fitness.{whole, not-too-many, eight-unless, above, flaw, first-flaw};
 ghost use Rattle.blocks.specs.Snapshot.{or-empty, is-there, size-check, store, store-flaw};
-ghost use Rattle.blocks.specs.Means.{id-width, region-of, block-count, block-at, name-within, name-before, if-there, snapshot-of, sizes-check, three, reason-number, flaw-of, flaw-at};
+ghost use Rattle.blocks.specs.Means.{id-width, region-of, block-count, block-at, name-within, name-before, if-there, snapshot-of, sizes-check, reason-number, flaw-of, flaw-at};
 use crate::block::BLOCK_SIZE;
 use crate::block::KIND_AT;
 use crate::block::MOST_BLOCKS;
@@ -46,28 +46,10 @@ fn or_empty(common: &[u8], has_common: bool) -> &[u8]
     if has_common { common } else { &common[0..0] }
 }
 
-fn are_whole(worktree: &[u8], common: &[u8], packed: &[u8]) -> bool
-    ensures { λ r. ⌜ r ≡ three whole (now (worktree .entry)) (now (common .entry)) (now (packed .entry)) ⌝ }
+fn all_three(a: bool, b: bool, c: bool) -> bool
+    ensures { λ r. ⌜ r ≡ (a && b && c) ⌝ }
 {
-    if !is_whole(worktree) {
-        return false;
-    }
-    if !is_whole(common) {
-        return false;
-    }
-    is_whole(packed)
-}
-
-fn are_not_too_many(worktree: &[u8], common: &[u8], packed: &[u8]) -> bool
-    ensures { λ r. ⌜ r ≡ three not-too-many (now (worktree .entry)) (now (common .entry)) (now (packed .entry)) ⌝ }
-{
-    if !is_not_too_many(worktree) {
-        return false;
-    }
-    if !is_not_too_many(common) {
-        return false;
-    }
-    is_not_too_many(packed)
+    if a { if b { c } else { false } } else { false }
 }
 
 // Rows 1 and 2: the earlier row first, whatever the region.
@@ -75,10 +57,14 @@ pub fn size_check(worktree: &[u8], common: &[u8], has_common: bool, packed: &[u8
     ensures { λ r. ⌜ sizes-check r ≡ size-check (snapshot-of (now (worktree .entry)) (if-there «has_common» (now (common .entry))) (now (packed .entry))) ⌝ }
 {
     let common = or_empty(common, has_common);
-    if !are_whole(worktree, common, packed) {
+    if !all_three(is_whole(worktree), is_whole(common), is_whole(packed)) {
         return Sizes::NotWhole;
     }
-    if !are_not_too_many(worktree, common, packed) {
+    if !all_three(
+        is_not_too_many(worktree),
+        is_not_too_many(common),
+        is_not_too_many(packed),
+    ) {
         return Sizes::TooMany;
     }
     Sizes::Right

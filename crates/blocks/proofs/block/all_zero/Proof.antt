@@ -1,3 +1,4 @@
+-- The invariant: the sum so far is 0 where every byte passed is, and the rest is still to be seen.
 use mathlib.Core.Path.{_≡_}
 use mathlib.Core.Bool.{_&&_, and-true, and-assoc}
 use Prim.Native.Nat.{_≤_, _*_, _-_}

@@ -1,3 +1,4 @@
+-- The part is block k, and whole.
 use Rattle.blocks.proofs.Parts.{part-is, length-block}
 use Prim.Native.Nat.{_*_}
 use borrow.Author.Needs.{needs}

@@ -1,3 +1,4 @@
+-- The invariant: both halves by the weights of the first, and 254 times the plain sum of the second, make the sums of the first k bytes of each half.
 use mathlib.Core.Path.{_≡_, ap, _∙_}
 use Prim.Native.Nat.{ℕ, _≤_, _*_, _-_, _+_}
 use Rattle.blocks.proofs.Walks.{weighted-more}

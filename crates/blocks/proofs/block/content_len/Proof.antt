@@ -1,3 +1,4 @@
+-- Two bytes, low first.
 use Rattle.blocks.specs.Block.{content-length}
 use native.Mathlib.Omega.{arith}
 use borrow.Author.Needs.{needs}

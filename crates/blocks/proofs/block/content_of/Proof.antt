@@ -1,3 +1,4 @@
+-- By the region that won.
 use borrow.Author.Needs.{needs}
 use Rattle.blocks.proofs.block.content_of.Statement.{statement}
 use Rattle.blocks.proofs.block.content_of.Tie as tie

@@ -1,3 +1,4 @@
+-- The part is the content, or empty where the length is over the longest.
 use Rattle.blocks.specs.Block.{block-content}
 use Rattle.blocks.proofs.Parts.{part-is, content-over, content-held}
 use native.Mathlib.Omega.{arith}

@@ -1,3 +1,4 @@
+-- Past the last block, damaged, or sound.
 use mathlib.Core.Path.{sym, _∙_}
 use borrow.Author.Tests.{lt-ltb, not-false}
 use Rattle.blocks.specs.Means.{id-width}

@@ -1,3 +1,4 @@
+-- One law for each clause of damage that fails.
 use mathlib.Core.Path.{sym, _∙_}
 use borrow.Author.Tests.{not-true, not-false}
 use Rattle.blocks.specs.Block.{block-kind}

@@ -1,3 +1,4 @@
+-- One width or two.
 use borrow.Author.Tests.{eq-eqb, ne-eqb}
 use borrow.Author.Needs.{needs}
 use Rattle.blocks.proofs.block.is_id_length.Statement.{statement}

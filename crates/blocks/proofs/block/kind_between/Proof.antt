@@ -1,3 +1,4 @@
+-- Both bounds.
 use borrow.Author.Tests.{le-leb, lt-leb}
 use Rattle.blocks.proofs.block.kind_between.Statement.{statement}
 use Rattle.blocks.proofs.block.kind_between.Tie as tie

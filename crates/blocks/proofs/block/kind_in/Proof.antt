@@ -1,3 +1,4 @@
+-- One law for each kind.
 use Rattle.blocks.specs.Block.{block-kind}
 use Rattle.blocks.specs.Means.{id-width}
 use Rattle.blocks.proofs.Parts.{taken-loose, taken-unread, taken-record, taken-failed}

@@ -1,3 +1,4 @@
+-- By region.
 use Rattle.blocks.specs.Block.{kind-suits}
 use borrow.Author.Needs.{needs}
 use Rattle.blocks.proofs.block.kind_suits.Statement.{statement}

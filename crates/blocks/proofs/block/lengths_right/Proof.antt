@@ -1,3 +1,4 @@
+-- Both lengths.
 use Rattle.blocks.specs.Block.{lengths-right}
 use borrow.Author.Tests.{le-leb, lt-leb}
 use borrow.Author.Needs.{needs}

@@ -1,3 +1,4 @@
+-- One byte.
 use Rattle.blocks.specs.Block.{name-length}
 use borrow.Author.Needs.{needs}
 use Rattle.blocks.proofs.block.name_len.Statement.{statement}

@@ -1,3 +1,4 @@
+-- The part is the name, or empty where the length is over the longest.
 use Rattle.blocks.specs.Block.{block-name}
 use Rattle.blocks.proofs.Parts.{part-is, name-over, name-held}
 use native.Mathlib.Omega.{arith}

@@ -1,3 +1,4 @@
+-- By the length of the content.
 use borrow.Author.Tests.{le-leb, lt-leb}
 use lib.ListN.{length}
 use Rattle.blocks.specs.Means.{id-width}

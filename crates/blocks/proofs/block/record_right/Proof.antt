@@ -1,3 +1,4 @@
+-- One law for each part of a record that fails.
 use mathlib.Core.Path.{sym, _∙_}
 use borrow.Author.Tests.{not-true, not-false}
 use Rattle.blocks.specs.Means.{id-width}

@@ -1,3 +1,4 @@
+-- Block k is there, or it is past the last.
 use borrow.Author.Tests.{lt-ltb, le-ltb}
 use borrow.Author.Needs.{needs}
 use Rattle.blocks.proofs.block.sound_kind.Statement.{statement}

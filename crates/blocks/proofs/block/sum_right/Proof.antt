@@ -1,3 +1,4 @@
+-- Both sums are what the definition compares.
 use Rattle.blocks.specs.Block.{sum-right}
 use borrow.Author.Needs.{needs}
 use Rattle.blocks.proofs.block.sum_right.Statement.{statement}

@@ -1,3 +1,4 @@
+-- Three parts, in order.
 use Rattle.blocks.specs.Block.{unused-zero}
 use borrow.Author.Tests.{not-true, not-false}
 use borrow.Author.Needs.{needs}

@@ -1,3 +1,4 @@
+-- The invariant: what is passed is spaces.
 use Rattle.blocks.proofs.Parts.{rest-is}
 use Rattle.blocks.proofs.Lines.{spaces-more, spaces-done, spaces-end}
 use mathlib.Core.Path.{_≡_, sym, _∙_}

@@ -1,3 +1,4 @@
+-- A byte is there, or none.
 use mathlib.Core.Path.{_∙_}
 use Rattle.blocks.proofs.Contents.{digit-there, digit-past}
 use borrow.Author.Needs.{needs}

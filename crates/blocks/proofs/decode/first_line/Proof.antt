@@ -1,3 +1,4 @@
+-- The invariant: what is passed begins the line.
 use native.Mathlib.Nat.{sub-zero}
 use mathlib.Core.Path.{_≡_, sym, _∙_}
 use mathlib.Core.List.{_++_}

@@ -1,3 +1,4 @@
+-- The digits, and no further one.
 use borrow.Author.Tests.{not-true, not-false}
 use borrow.Author.Needs.{needs}
 use Rattle.blocks.proofs.decode.is_id.Statement.{statement}

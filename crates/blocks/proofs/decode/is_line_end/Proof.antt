@@ -1,3 +1,4 @@
+-- By the byte.
 use Rattle.blocks.proofs.Lines.{line-end, no-line-end}
 use Rattle.blocks.proofs.decode.is_line_end.Statement.{statement}
 use Rattle.blocks.proofs.decode.is_line_end.Tie as tie

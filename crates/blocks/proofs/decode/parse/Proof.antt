@@ -1,3 +1,4 @@
+-- Each test is one of the definition.
 use borrow.Author.Needs.{needs}
 use Rattle.blocks.proofs.decode.parse.Statement.{statement}
 use Rattle.blocks.proofs.decode.parse.Tie as tie

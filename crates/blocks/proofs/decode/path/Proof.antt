@@ -1,3 +1,4 @@
+-- Too short for a path, or what stands behind `ref: `.
 use Rattle.blocks.proofs.Parts.{rest-is}
 use Rattle.blocks.proofs.Contents.{path-short}
 use native.Mathlib.Omega.{arith}

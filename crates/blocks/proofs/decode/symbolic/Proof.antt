@@ -1,3 +1,4 @@
+-- The name was made, or it does not fit.
 use Rattle.names.specs.Means.{content}
 use mathlib.Core.Path.{_∙_}
 use Rattle.blocks.proofs.Contents.{name-made, name-refused}

@@ -1,3 +1,4 @@
+-- One law for each state.
 use mathlib.Core.Path.{sym, _∙_}
 use Rattle.blocks.specs.Means.{id-width}
 use Rattle.blocks.proofs.Contents.{read-path, read-object, read-neither}

@@ -1,3 +1,4 @@
+-- Complete, unsupported, or incomplete.
 use mathlib.Core.Path.{sym, _∙_}
 use Rattle.blocks.proofs.Contents.{target-complete, target-unsupported, target-incomplete}
 use borrow.Author.Needs.{needs}

@@ -1,3 +1,4 @@
+-- Damaged, an error kind, or named.
 use mathlib.Core.Path.{sym, _∙_}
 use borrow.Author.Tests.{not-false}
 use Rattle.blocks.specs.Block.{block-kind}

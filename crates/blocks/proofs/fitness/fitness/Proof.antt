@@ -1,3 +1,4 @@
+-- The first region that is unfit counts.
 use mathlib.Core.Path.{sym, _∙_}
 use borrow.Author.Tests.{not-true, not-false}
 use Rattle.blocks.proofs.Flaws.{three-regions, or-stop, or-next}

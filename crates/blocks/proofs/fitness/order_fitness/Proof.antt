@@ -1,3 +1,4 @@
+-- The first block, or the order of two names.
 use mathlib.Core.Path.{sym, _∙_}
 use Rattle.blocks.specs.Means.{name-within, block-at}
 use Rattle.blocks.proofs.Flaws.{above-first, above-next, eight-none, eight-some}

@@ -1,3 +1,4 @@
+-- The invariant: the region's first flaw is that of the blocks from k on, after the name of the block before.
 use mathlib.Core.Path.{_≡_, sym, _∙_}
 use Prim.Native.Nat.{_≤_, _-_}
 use lib.ListN.{drop}

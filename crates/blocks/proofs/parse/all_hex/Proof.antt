@@ -1,3 +1,4 @@
+-- The invariant: every byte passed is a digit.
 use mathlib.Core.Path.{_≡_}
 use borrow.Author.Tests.{not-true, not-false}
 use Prim.Native.Nat.{_≤_, _-_}

@@ -1,3 +1,4 @@
+-- A byte is there, or none.
 use mathlib.Core.Path.{sym}
 use lib.ListN.{List·getD-eq-default}
 use borrow.Author.Needs.{needs}

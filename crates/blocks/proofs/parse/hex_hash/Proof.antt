@@ -1,3 +1,4 @@
+-- Too short, or by the digits.
 use borrow.Author.Tests.{le-leb, lt-leb}
 use borrow.Author.Needs.{needs}
 use Rattle.blocks.specs.Means.{id-width}

@@ -1,3 +1,4 @@
+-- The invariant: the digits so far are those of s, with zeros behind it, in lower case.
 use Rattle.blocks.specs.Content.{lower, lower-case}
 use Prim.Native.Nat.{ℕ, _≤_, _-_}
 use mathlib.Core.Path.{ap, _≡_, sym, _∙_}

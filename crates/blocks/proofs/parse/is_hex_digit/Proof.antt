@@ -1,3 +1,4 @@
+-- By range.
 use Rattle.blocks.proofs.Digits.{hex-digit, hex-upper, hex-lower, hex-below, hex-after-digits, hex-after-upper, hex-above}
 use native.Mathlib.Omega.{arith}
 use Rattle.blocks.proofs.parse.is_hex_digit.Statement.{statement}

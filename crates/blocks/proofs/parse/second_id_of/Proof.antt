@@ -1,3 +1,4 @@
+-- No second id, or what stands behind the first.
 use lib.ListN.{drop-of-length-le, length}
 use Prim.Native.Nat.{_≤_}
 use Rattle.blocks.specs.Means.{id-width}

@@ -1,0 +1,2 @@
+-- What the calls give.
+pub mod Numbers
