@@ -1,11 +1,13 @@
 -- The candidates one after the other.
 use mathlib.Core.Path.{_≡_, refl, sym, _∙_}
-use Prim.Native.Nat.{ℕ}
+use Prim.Native.Nat.{ℕ, zero, suc, _+_, _≤_, _<_}
+use native.Mathlib.Omega.{arith}
 use mathlib.Core.List.{List, [], _∷_, _++_}
-use mathlib.Core.Bool.{Bool, true, false}
+use mathlib.Core.Bool.{Bool, true, false, true≢false, false≢true}
 use Rattle.names.specs.Bytes.{Bytes, if_then_else_}
 use Rattle.names.specs.Name.{fits, is-pseudo}
-use Rattle.names.specs.Candidates.{Candidate, pass, passes, last-candidate, sought-packed, candidates}
+use lib.ListN.{take, drop}
+use Rattle.names.specs.Candidates.{Candidate, full-name, pass, passes, last-candidate, sought-packed, candidates}
 use Rattle.names.specs.Means.{content, made-name, if-fits}
 use Rattle.names.specs.declared.name.Made.{Made}
 use Rattle.names.proofs.Held.{made-ok, made-is}
@@ -13,7 +15,7 @@ use Rattle.blocks.specs.Snapshot.{Snapshot, store}
 use Rattle.blocks.specs.Means.{id-width}
 use Rattle.refs.specs.Answer.{Answer, nothing, found, refused}
 use Rattle.refs.specs.Search.{or-next, lookup, first-answer, search}
-use Rattle.refs.specs.Means.{candidate-answer, looked-up, or-answer, first-of, pass-names, is-answer, last-answer, search-answer}
+use Rattle.refs.specs.Means.{candidate-answer, between, looked-up, or-answer, first-of, pass-names, is-answer, last-answer, search-answer}
 
 module _ (e : Bytes) (s : Snapshot) where
   -- ---- a candidate that was made
@@ -48,3 +50,80 @@ module _ (e : Bytes) (s : Snapshot) where
   pub search-is : (x : Bytes) → search-answer e s x ≡ first-of e s (passes x) (last-answer e s x)
   unfolding search candidates
   search-is x = next-answer (passes x) (last-candidate x)
+
+  -- ---- a pass
+
+  module _ (x : Bytes) (pseudo : Bool) where
+    -- what directory d answers
+    abbrev tried : ℕ → Answer
+    tried d = looked-up e s (full-name pseudo (between d) x) true
+
+    -- the names of a pass from directory d on
+    abbrev from : ℕ → List Bytes
+    from d = drop d (pass pseudo x)
+
+    -- the pass, but for what the directories before d gave
+    abbrev pub Left : ℕ → Type 0
+    Left d = (rest : Answer) → first-of e s (pass pseudo x) rest ≡ first-of e s (drop d (pass pseudo x)) rest
+
+    below-four : (P : ℕ → Type 0) → P 0 → P 1 → P 2 → P 3 → (d : ℕ) → d < 4 → P d
+    below-four P a b c f zero h = a
+    below-four P a b c f (suc zero) h = b
+    below-four P a b c f (suc (suc zero)) h = c
+    below-four P a b c f (suc (suc (suc zero))) h = f
+    below-four P a b c f (suc (suc (suc (suc d)))) h = absurd (omega arith)
+
+    turn : (d : ℕ) → d < 4 → (rest : Answer) → first-of e s (drop d (pass pseudo x)) rest ≡ or-answer (tried d) (first-of e s (drop (d + 1) (pass pseudo x)) rest)
+    unfolding first-of pass
+    turn = below-four (λ d. (rest : Answer) → first-of e s (drop d (pass pseudo x)) rest ≡ or-answer (tried d) (first-of e s (drop (d + 1) (pass pseudo x)) rest)) (λ r. refl) (λ r. refl) (λ r. refl) (λ r. refl)
+
+    or-same : (a b c : Answer) → is-answer a ≡ true → or-answer a b ≡ or-answer a c
+    or-same nothing b c h = absurd (false≢true h)
+    or-same (found r) b c h = refl
+    or-same (refused k) b c h = refl
+
+    or-nothing : (a b : Answer) → is-answer a ≡ false → or-answer a b ≡ b
+    or-nothing nothing b h = refl
+    or-nothing (found r) b h = absurd (true≢false h)
+    or-nothing (refused k) b h = absurd (true≢false h)
+
+    -- how far a pass has come: directories before d gave nothing; where only the first counts, it stands there
+    pub record Stands (one : Bool) (d : ℕ) : Type 0 where
+      pub within : d ≤ 4
+      pub left : Left d
+      pub first : one ≡ true → d ≡ 0
+
+    pub stands-start : (one : Bool) → Stands one 0
+    stands-start one = record { within = omega arith; left = λ rest. refl; first = λ h. refl }
+
+    module _ (one : Bool) (d : ℕ) (h : Stands one d) (l : d < 4) (a : Answer) (t : a ≡ looked-up e s (full-name pseudo (between d) x) true) where
+      pub stands-next : is-answer a ≡ false → one ≡ false → Stands one (d + 1)
+      stands-next n o =
+          record {
+            within = omega arith;
+            left = λ rest. h .left rest ∙ turn d l rest ∙ rw (← t) (or-nothing a _ n);
+            first = λ k. absurd (true≢false (sym k ∙ o));
+          }
+
+      -- the first directory of a pass in which only that counts
+      alone : one ≡ true → (rest : Answer) → first-of e s (take 1 (pass pseudo x)) rest ≡ or-answer a rest
+      unfolding first-of pass
+      alone o rest = let z : d ≡ 0 = h .first o in rw (t, z)
+
+      pub pass-found : is-answer a ≡ true → (rest : Answer) → first-of e s (pass-names pseudo one x) rest ≡ or-answer a rest
+      pass-found n rest = go one refl
+        where
+          go : (o : Bool) → one ≡ o → first-of e s (if o then take 1 (pass pseudo x) else pass pseudo x) rest ≡ or-answer a rest
+          go true o = alone o rest
+          go false o = h .left rest ∙ turn d l rest ∙ rw (← t) (or-same a _ rest n)
+
+      pub pass-early : is-answer a ≡ false → one ≡ true → (rest : Answer) → first-of e s (pass-names pseudo one x) rest ≡ rest
+      pass-early n o rest = rw o (alone o rest ∙ or-nothing a rest n)
+
+    pub pass-end : (one : Bool) (d : ℕ) → Stands one d → 4 ≤ d → (rest : Answer) → first-of e s (pass-names pseudo one x) rest ≡ rest
+    unfolding first-of pass
+    pass-end one d h l rest = go one refl
+      where
+        go : (o : Bool) → one ≡ o → first-of e s (if o then take 1 (pass pseudo x) else pass pseudo x) rest ≡ rest
+        go true o = absurd (omega (arith, h .first o))
+        go false o = let z : d ≡ 4 = omega (arith, h .within) in h .left rest ∙ rw z

@@ -1,13 +1,14 @@
 // Search (find.rs).
 ghost use mathlib.Core.Path.{_≡_};
 ghost use mathlib.Core.List.{_++_};
+ghost use mathlib.Core.Bool.{true};
 ghost use lib.ListN.{drop};
 ghost use Rattle.names.specs.Bytes.{if_then_else_};
 ghost use Rattle.names.specs.Candidates.{full-name};
 ghost use Rattle.names.specs.Means.{content, made-name, if-fits, base-of};
 ghost use Rattle.blocks.specs.Means.{content-in, if-there, snapshot-of};
 ghost use Rattle.blocks.specs.Block.{Region};
-ghost use Rattle.refs.specs.Means.{Flawless, FitRegions, IndexOf, ClashOf, answered, BlockAnswer, PackedAnswer, RecordAnswer, in-common, candidate-answer, between, is-answer, MadeAnswer};
+ghost use Rattle.refs.specs.Means.{Flawless, FitRegions, IndexOf, ClashOf, answered, BlockAnswer, PackedAnswer, RecordAnswer, in-common, candidate-answer, between, is-answer, MadeAnswer, looked-up, pass-names, PassAnswer};
 use crate::raw::Answered;
 use crate::raw::Outcome;
 use crate::raw::entry_answer;
@@ -215,4 +216,50 @@ fn has_answer(a: Answered) -> bool
         Outcome::Found => true,
         Outcome::Refused(_) => true,
     }
+}
+
+// What directory d of a pass answers.
+fn try_directory<'a>(
+    worktree: &'a [u8],
+    common: &'a [u8],
+    has_common: bool,
+    packed: &[u8],
+    e: &[u8],
+    x: &[u8],
+    d: usize,
+    pseudo: bool,
+) -> Answered
+    requires { ⌜ FitRegions (snapshot-of (now worktree) (if-there «has_common» (now common)) (now packed)) ⌝ }
+    ensures { λ a. ⌜ answered a ≡ looked-up (now (e .entry)) (snapshot-of (now (worktree .entry)) (if-there «has_common» (now (common .entry))) (now (packed .entry))) (full-name pseudo (between d) (now (x .entry))) true ⌝ }
+{
+    let m = candidate_for(x, d, pseudo);
+    made_answer(worktree, common, has_common, packed, e, m, true)
+}
+
+// One pass over the four directories; left early after the first, where only that counts.
+fn one_pass<'a>(
+    worktree: &'a [u8],
+    common: &'a [u8],
+    has_common: bool,
+    packed: &[u8],
+    e: &[u8],
+    x: &[u8],
+    pseudo: bool,
+    one: bool,
+) -> Answered
+    requires { ⌜ FitRegions (snapshot-of (now worktree) (if-there «has_common» (now common)) (now packed)) ⌝ }
+    ensures { λ a. ⌜ PassAnswer (now (e .entry)) (snapshot-of (now (worktree .entry)) (if-there «has_common» (now (common .entry))) (now (packed .entry))) (pass-names pseudo one (now (x .entry))) a ⌝ }
+{
+    let mut d: usize = 0;
+    'try_directories: while d < 4 {
+        let a = try_directory(worktree, common, has_common, packed, e, x, d, pseudo);
+        if has_answer(a) {
+            return a;
+        }
+        if one {
+            break 'try_directories;
+        }
+        d += 1;
+    }
+    not_found()
 }
