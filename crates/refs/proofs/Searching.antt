@@ -1,10 +1,10 @@
 -- The candidates one after the other.
-use mathlib.Core.Path.{_≡_, refl, sym, _∙_}
+use mathlib.Core.Path.{_≡_, refl, sym, ap, _∙_}
 use Prim.Native.Nat.{ℕ, zero, suc, _+_, _≤_, _<_}
 use native.Mathlib.Omega.{arith}
 use mathlib.Core.List.{List, [], _∷_, _++_}
 use mathlib.Core.Bool.{Bool, true, false, true≢false, false≢true}
-use Rattle.names.specs.Bytes.{Bytes, if_then_else_}
+use Rattle.names.specs.Bytes.{Bytes, bytes, if_then_else_, same}
 use Rattle.names.specs.Name.{fits, is-pseudo}
 use lib.ListN.{take, drop}
 use Rattle.names.specs.Candidates.{Candidate, full-name, pass, passes, last-candidate, sought-packed, candidates}
@@ -15,7 +15,21 @@ use Rattle.blocks.specs.Snapshot.{Snapshot, store}
 use Rattle.blocks.specs.Means.{id-width}
 use Rattle.refs.specs.Answer.{Answer, nothing, found, refused}
 use Rattle.refs.specs.Search.{or-next, lookup, first-answer, search}
-use Rattle.refs.specs.Means.{candidate-answer, between, looked-up, or-answer, first-of, pass-names, is-answer, last-answer, search-answer}
+use Rattle.refs.specs.Means.{candidate, candidate-answer, between, looked-up, or-answer, first-of, pass-names, is-answer, last-answer, search-answer}
+
+or-left : (a b : Answer) → is-answer a ≡ true → or-answer a b ≡ a
+or-left nothing b h = absurd (false≢true h)
+or-left (found r) b h = refl
+or-left (refused k) b h = refl
+
+or-right : (a b : Answer) → is-answer a ≡ false → or-answer a b ≡ b
+or-right nothing b h = refl
+or-right (found r) b h = absurd (true≢false h)
+or-right (refused k) b h = absurd (true≢false h)
+
+passes-by : (x : Bytes) (p : Bool) → p ≡ is-pseudo x → passes x ≡ (if p then take 1 (pass true x) ++ pass false x else pass true x)
+unfolding passes
+passes-by x p q = rw q
 
 module _ (e : Bytes) (s : Snapshot) where
   -- ---- a candidate that was made
@@ -77,16 +91,6 @@ module _ (e : Bytes) (s : Snapshot) where
     unfolding first-of pass
     turn = below-four (λ d. (rest : Answer) → first-of e s (drop d (pass pseudo x)) rest ≡ or-answer (tried d) (first-of e s (drop (d + 1) (pass pseudo x)) rest)) (λ r. refl) (λ r. refl) (λ r. refl) (λ r. refl)
 
-    or-same : (a b c : Answer) → is-answer a ≡ true → or-answer a b ≡ or-answer a c
-    or-same nothing b c h = absurd (false≢true h)
-    or-same (found r) b c h = refl
-    or-same (refused k) b c h = refl
-
-    or-nothing : (a b : Answer) → is-answer a ≡ false → or-answer a b ≡ b
-    or-nothing nothing b h = refl
-    or-nothing (found r) b h = absurd (true≢false h)
-    or-nothing (refused k) b h = absurd (true≢false h)
-
     -- how far a pass has come: directories before d gave nothing; where only the first counts, it stands there
     pub record Stands (one : Bool) (d : ℕ) : Type 0 where
       pub within : d ≤ 4
@@ -101,7 +105,7 @@ module _ (e : Bytes) (s : Snapshot) where
       stands-next n o =
           record {
             within = omega arith;
-            left = λ rest. h .left rest ∙ turn d l rest ∙ rw (← t) (or-nothing a _ n);
+            left = λ rest. h .left rest ∙ turn d l rest ∙ rw (← t) (or-right a _ n);
             first = λ k. absurd (true≢false (sym k ∙ o));
           }
 
@@ -115,10 +119,10 @@ module _ (e : Bytes) (s : Snapshot) where
         where
           go : (o : Bool) → one ≡ o → first-of e s (if o then take 1 (pass pseudo x) else pass pseudo x) rest ≡ or-answer a rest
           go true o = alone o rest
-          go false o = h .left rest ∙ turn d l rest ∙ rw (← t) (or-same a _ rest n)
+          go false o = h .left rest ∙ turn d l rest ∙ rw (← t) (or-left a _ n ∙ sym (or-left a rest n))
 
       pub pass-early : is-answer a ≡ false → one ≡ true → (rest : Answer) → first-of e s (pass-names pseudo one x) rest ≡ rest
-      pass-early n o rest = rw o (alone o rest ∙ or-nothing a rest n)
+      pass-early n o rest = rw o (alone o rest ∙ or-right a rest n)
 
     pub pass-end : (one : Bool) (d : ℕ) → Stands one d → 4 ≤ d → (rest : Answer) → first-of e s (pass-names pseudo one x) rest ≡ rest
     unfolding first-of pass
@@ -127,3 +131,58 @@ module _ (e : Bytes) (s : Snapshot) where
         go : (o : Bool) → one ≡ o → first-of e s (if o then take 1 (pass pseudo x) else pass pseudo x) rest ≡ rest
         go true o = absurd (omega (arith, h .first o))
         go false o = let z : d ≡ 4 = omega (arith, h .within) in h .left rest ∙ rw z
+
+  -- ---- the last candidate
+
+  pub last-none : (x : Bytes) → same x (bytes "HEAD") ≡ true → nothing ≡ last-answer e s x
+  unfolding last-candidate first-answer
+  last-none x h = go (same x (bytes "HEAD")) h
+    where
+      go : (b : Bool) → b ≡ true → nothing ≡ first-answer id-width e (store id-width s) (if b then [] else candidate (full-name true (bytes "remotes/") (x ++ bytes "/HEAD")) false ∷ []) .answer
+      go true h = refl
+      go false h = absurd (false≢true h)
+
+  pub last-one : (x : Bytes) → same x (bytes "HEAD") ≡ false → (a : Answer) → a ≡ looked-up e s (full-name true (bytes "remotes/") (x ++ bytes "/HEAD")) false → a ≡ last-answer e s x
+  unfolding last-candidate first-answer
+  last-one x h a g = g ∙ go (same x (bytes "HEAD")) h
+    where
+      only : (b : Answer) → or-next b (record { tried = 0; answer = nothing }) .answer ≡ b
+      only nothing = refl
+      only (found r) = refl
+      only (refused k) = refl
+
+      go : (b : Bool) → b ≡ false → looked-up e s (full-name true (bytes "remotes/") (x ++ bytes "/HEAD")) false
+          ≡ first-answer id-width e (store id-width s) (if b then [] else candidate (full-name true (bytes "remotes/") (x ++ bytes "/HEAD")) false ∷ []) .answer
+      go true h = absurd (true≢false h)
+      go false h = sym (only (looked-up e s (full-name true (bytes "remotes/") (x ++ bytes "/HEAD")) false))
+
+  -- ---- the passes
+
+  -- what follows the first pass: the second, if it was left early
+  abbrev then-answer : Bytes → Bool → Answer
+  then-answer x true = first-of e s (pass false x) (last-answer e s x)
+  then-answer x false = last-answer e s x
+
+  passes-then : (x : Bytes) (p : Bool) → first-of e s (if p then take 1 (pass true x) ++ pass false x else pass true x) (last-answer e s x) ≡ first-of e s (pass-names true p x) (then-answer x p)
+  passes-then x true = first-append (take 1 (pass true x)) (pass false x) (last-answer e s x)
+  passes-then x false = refl
+
+  module _ (x : Bytes) (p : Bool) (q : p ≡ is-pseudo x) (a : Answer) (f : (rest : Answer) → first-of e s (pass-names true p x) rest ≡ or-answer a rest) where
+    first-pass : search-answer e s x ≡ or-answer a (then-answer x p)
+    first-pass = search-is x ∙ ap (λ (l : List Bytes). first-of e s l (last-answer e s x)) (passes-by x p q) ∙ passes-then x p ∙ f (then-answer x p)
+
+    pub search-first : is-answer a ≡ true → a ≡ search-answer e s x
+    search-first n = sym (first-pass ∙ or-left a (then-answer x p) n)
+
+    pub search-one : is-answer a ≡ false → p ≡ false → (b : Answer) → b ≡ last-answer e s x → b ≡ search-answer e s x
+    search-one n o b g = g ∙ sym (first-pass ∙ or-right a (then-answer x p) n ∙ ap (then-answer x) o)
+
+    module _ (n : is-answer a ≡ false) (o : p ≡ true) (b : Answer) (h : (rest : Answer) → first-of e s (pass false x) rest ≡ or-answer b rest) where
+      second-pass : search-answer e s x ≡ or-answer b (last-answer e s x)
+      second-pass = first-pass ∙ or-right a (then-answer x p) n ∙ ap (then-answer x) o ∙ h (last-answer e s x)
+
+      pub search-second : is-answer b ≡ true → b ≡ search-answer e s x
+      search-second m = sym (second-pass ∙ or-left b (last-answer e s x) m)
+
+      pub search-last : is-answer b ≡ false → (c : Answer) → c ≡ last-answer e s x → c ≡ search-answer e s x
+      search-last m c g = g ∙ sym (second-pass ∙ or-right b (last-answer e s x) m)

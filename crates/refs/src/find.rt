@@ -8,7 +8,7 @@ ghost use Rattle.names.specs.Candidates.{full-name};
 ghost use Rattle.names.specs.Means.{content, made-name, if-fits, base-of};
 ghost use Rattle.blocks.specs.Means.{content-in, if-there, snapshot-of};
 ghost use Rattle.blocks.specs.Block.{Region};
-ghost use Rattle.refs.specs.Means.{Flawless, FitRegions, IndexOf, ClashOf, answered, BlockAnswer, PackedAnswer, RecordAnswer, in-common, candidate-answer, between, is-answer, MadeAnswer, looked-up, pass-names, PassAnswer};
+ghost use Rattle.refs.specs.Means.{Flawless, FitRegions, IndexOf, ClashOf, answered, BlockAnswer, PackedAnswer, RecordAnswer, in-common, candidate-answer, between, is-answer, MadeAnswer, looked-up, pass-names, PassAnswer, last-answer, search-answer};
 use crate::raw::Answered;
 use crate::raw::Outcome;
 use crate::raw::entry_answer;
@@ -23,6 +23,7 @@ use blocks::block::sound_kind;
 use names::bytes::Order;
 use names::bytes::compare_joined;
 use names::bytes::directory_joined;
+use names::bytes::equal;
 use names::find::Base;
 use names::find::Packed;
 use names::find::to_base_dir_and_relative_name;
@@ -30,7 +31,9 @@ use names::find::transform_full_name_for_lookup;
 use names::name::Made;
 use names::name::Name;
 use names::name::construct_full_name_ref;
+use names::name::is_pseudo_ref;
 use names::name::lend;
+use names::name::remote_head_candidate;
 
 // The number of a block, if there is one.
 pub enum Index {
@@ -262,4 +265,51 @@ fn one_pass<'a>(
         d += 1;
     }
     not_found()
+}
+
+// What the last candidate answers, x/HEAD below remotes: there is none for HEAD, and it is never sought packed.
+fn try_remote_head<'a>(
+    worktree: &'a [u8],
+    common: &'a [u8],
+    has_common: bool,
+    packed: &[u8],
+    e: &[u8],
+    x: &[u8],
+) -> Answered
+    requires { ⌜ FitRegions (snapshot-of (now worktree) (if-there «has_common» (now common)) (now packed)) ⌝ }
+    ensures { λ a. ⌜ answered a ≡ last-answer (now (e .entry)) (snapshot-of (now (worktree .entry)) (if-there «has_common» (now (common .entry))) (now (packed .entry))) (now (x .entry)) ⌝ }
+{
+    if equal(x, b"HEAD") {
+        return not_found();
+    }
+    let m = remote_head_candidate(x);
+    made_answer(worktree, common, has_common, packed, e, m, false)
+}
+
+// Search for the partial name x, unchecked, in regions fit for search. A second pass begins only when the first was left
+// early: then pseudo names are no longer considered.
+pub(crate) fn find_one_with_verified_input<'a>(
+    worktree: &'a [u8],
+    common: &'a [u8],
+    has_common: bool,
+    packed: &[u8],
+    e: &[u8],
+    x: &[u8],
+) -> Answered
+    requires { ⌜ FitRegions (snapshot-of (now worktree) (if-there «has_common» (now common)) (now packed)) ⌝ }
+    ensures { λ a. ⌜ answered a ≡ search-answer (now (e .entry)) (snapshot-of (now (worktree .entry)) (if-there «has_common» (now (common .entry))) (now (packed .entry))) (now (x .entry)) ⌝ }
+{
+    let pseudo = is_pseudo_ref(x);
+    let a = one_pass(worktree, common, has_common, packed, e, x, true, pseudo);
+    if has_answer(a) {
+        return a;
+    }
+    if !pseudo {
+        return try_remote_head(worktree, common, has_common, packed, e, x);
+    }
+    let b = one_pass(worktree, common, has_common, packed, e, x, false, false);
+    if has_answer(b) {
+        return b;
+    }
+    try_remote_head(worktree, common, has_common, packed, e, x)
 }
