@@ -2,15 +2,24 @@
 use mathlib.Core.Path.{_≡_, refl, sym, ap, _∙_}
 use Prim.Native.Nat.{ℕ}
 use native.Mathlib.Omega.{arith}
-use mathlib.Core.Bool.{Bool, true, false, _&&_}
-use mathlib.Core.Option.{Option, none, some}
+use mathlib.Core.Bool.{Bool, true, false, _&&_, true≢false, false≢true}
+use mathlib.Core.Option.{Option, none, some, Option·map}
 use Rattle.names.specs.Bytes.{Bytes}
 use Rattle.names.specs.Check.{Check, unless, _or-else_, Checked, gives, refuses, checked}
 use Rattle.names.specs.Name.{fits}
 use Rattle.names.specs.Namespace.{expand, expansion, passes-if-given, names-check, expanded}
 use Rattle.names.specs.WellFormed.{well-formed}
 use Rattle.names.proofs.Tests.{and-right}
-use Rattle.blocks.specs.Means.{if-there}
+use Rattle.blocks.specs.Block.{Region}
+use Rattle.blocks.specs.Entry.{entries}
+use Rattle.blocks.specs.Fitness.{Flaw, first-flaw}
+use Rattle.blocks.specs.Snapshot.{Snapshot, or-empty, store, or-flaw, store-flaw}
+use Rattle.blocks.specs.Means.{id-width, if-there}
+use Rattle.refs.specs.Search.{answers, turned-away, unfit, after-checks}
+use Rattle.refs.specs.Means.{FitRegions}
+use Rattle.refs.specs.CheckMeans.{gated, passed}
+use Rattle.refs.specs.declared.check.Gate.{Gate}
+use Rattle.refs.specs.declared.check.Gate.the-variants as gate
 
 module _ (x : Bytes) (o : Option Bytes) where
   pub names-long : (fits x && passes-if-given fits o) ≡ false → names-check (some x) o ≡ some 3
@@ -58,3 +67,67 @@ checked-is (some k) a b h = absurd (let z : _≡_ {A = ℕ} 0 1 = cc in omega ar
 pub checked-refuses : {A : Type 0} (c : Check) (a : A) (k : ℕ) → refuses k ≡ checked c a → c ≡ some k
 checked-refuses none a k h = absurd (let z : _≡_ {A = ℕ} 0 1 = cc in omega arith)
 checked-refuses (some j) a k h = cc
+
+-- ---- a call that was checked
+
+module _ {A B : Type 0} (c : Check) (f : Option Flaw) (e : B) where
+  -- a call that did not pass gives the same whatever the answer
+  pub gate-stops : (g : Gate) (x : B) → gated g x ≡ after-checks c f e → passed g ≡ false → (a b : A) → gated g a ≡ after-checks c f b
+  gate-stops g x h n a b = go c f h
+    where
+      clash : (k : Gate) → passed k ≡ false → gated k x ≡ answers e → gated k a ≡ answers b
+      clash gate.Passed n h = absurd (true≢false n)
+      clash gate.NotWhole n h = absurd (let z : _≡_ {A = ℕ} 0 1 = cc in omega arith)
+      clash gate.TooMany n h = absurd (let z : _≡_ {A = ℕ} 0 1 = cc in omega arith)
+      clash (gate.Refused why) n h = absurd (let z : _≡_ {A = ℕ} 0 1 = cc in omega arith)
+      clash (gate.Unfit why r i) n h = absurd (let z : _≡_ {A = ℕ} 0 1 = cc in omega arith)
+
+      same-away : (k : Gate) (j : ℕ) → passed k ≡ false → gated k x ≡ turned-away j → gated k a ≡ turned-away j
+      same-away gate.Passed j n h = absurd (true≢false n)
+      same-away gate.NotWhole j n h = cc
+      same-away gate.TooMany j n h = cc
+      same-away (gate.Refused why) j n h = cc
+      same-away (gate.Unfit why r i) j n h = absurd (let z : _≡_ {A = ℕ} 0 1 = cc in omega arith)
+
+      same-unfit : (k : Gate) (l : Flaw) → passed k ≡ false → gated k x ≡ unfit l → gated k a ≡ unfit l
+      same-unfit gate.Passed l n h = absurd (true≢false n)
+      same-unfit gate.NotWhole l n h = absurd (let z : _≡_ {A = ℕ} 0 1 = cc in omega arith)
+      same-unfit gate.TooMany l n h = absurd (let z : _≡_ {A = ℕ} 0 1 = cc in omega arith)
+      same-unfit (gate.Refused why) l n h = absurd (let z : _≡_ {A = ℕ} 0 1 = cc in omega arith)
+      same-unfit (gate.Unfit why r i) l n h = cc
+
+      go : (d : Check) (l : Option Flaw) → gated g x ≡ after-checks d l e → gated g a ≡ after-checks d l b
+      go (some k) l h = same-away g k n h
+      go none (some l) h = same-unfit g l n h
+      go none none h = clash g n h
+
+-- a call that passed: its checks found nothing
+pub record Passes {B : Type 0} (c : Check) (f : Option Flaw) (x e : B) : Type 0 where
+  pub no-check : c ≡ none
+  pub no-flaw : f ≡ none
+  pub same-value : x ≡ e
+
+pub gate-passes : {B : Type 0} (c : Check) (f : Option Flaw) (e : B) (g : Gate) (x : B) → gated g x ≡ after-checks c f e → passed g ≡ true → Passes c f x e
+gate-passes c f e gate.Passed x h n = go c f h
+  where
+    go : (d : Check) (l : Option Flaw) → answers x ≡ after-checks d l e → Passes d l x e
+    go none none h = record { no-check = refl; no-flaw = refl; same-value = cc }
+    go none (some l) h = absurd (let z : _≡_ {A = ℕ} 0 1 = cc in omega arith)
+    go (some k) l h = absurd (let z : _≡_ {A = ℕ} 0 1 = cc in omega arith)
+gate-passes c f e gate.NotWhole x h n = absurd (false≢true n)
+gate-passes c f e gate.TooMany x h n = absurd (false≢true n)
+gate-passes c f e (gate.Refused why) x h n = absurd (false≢true n)
+gate-passes c f e (gate.Unfit why r i) x h n = absurd (false≢true n)
+
+-- ---- regions without a flaw
+
+or-none : (f g : Option Flaw) → or-flaw f g ≡ none → (f ≡ none) × (g ≡ none)
+or-none none g h = (refl, h)
+or-none (some l) g h = absurd (let z : _≡_ {A = ℕ} 0 1 = cc in omega arith)
+
+pub fit-regions : (s : Snapshot) → store-flaw (store id-width s) ≡ none → FitRegions s
+unfolding store-flaw store
+fit-regions s h =
+    let a = or-none (first-flaw Region.worktree (entries id-width Region.worktree (s .worktree))) _ h in
+    let b = or-none (first-flaw Region.common (or-empty (Option·map (entries id-width Region.common) (s .common)))) _ (a .1) in
+    record { worktree = a .0; common = λ c e. rw e at (b .0); packed = b .1 }

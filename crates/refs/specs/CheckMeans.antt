@@ -1,11 +1,13 @@
 -- What the checks of a call mean.
 use Prim.Native.Nat.{ℕ}
+use mathlib.Core.Bool.{Bool, true, false}
 use mathlib.Core.Option.{Option, none, some}
 use Rattle.names.specs.Bytes.{Bytes}
 use Rattle.names.specs.Check.{Check, Checked, checked}
 use Rattle.names.specs.Means.{content, number}
 use Rattle.blocks.specs.Means as blocks
-use Rattle.refs.specs.Search.{Result, answers, turned-away, unfit}
+use Rattle.refs.specs.Answer.{Answer}
+use Rattle.refs.specs.Search.{Searched, Result, answers, turned-away, unfit}
 use Rattle.refs.specs.declared.check.NamesGate.{NamesGate}
 use Rattle.refs.specs.declared.check.NamesGate.the-variants as names
 use Rattle.refs.specs.declared.check.CheckedNames.{CheckedNames}
@@ -27,3 +29,16 @@ gated gate.NotWhole a = turned-away 1
 gated gate.TooMany a = turned-away 2
 gated (gate.Refused why) a = turned-away (number why)
 gated (gate.Unfit why r i) a = unfit (record { number = blocks.reason-number why; region = blocks.region-of r; block = i })
+
+abbrev pub passed : Gate → Bool
+passed gate.Passed = true
+passed gate.NotWhole = false
+passed gate.TooMany = false
+passed (gate.Refused why) = false
+passed (gate.Unfit why r i) = false
+
+-- what a search answers, without the number of candidates tried
+abbrev pub answer-only : Result Searched → Result Answer
+answer-only (answers s) = answers (s .answer)
+answer-only (turned-away k) = turned-away k
+answer-only (unfit f) = unfit f

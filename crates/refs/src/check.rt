@@ -22,7 +22,7 @@ ghost use Rattle.names.specs.Means.{content, number};
 ghost use Rattle.blocks.specs.Snapshot.{store, store-flaw};
 ghost use Rattle.blocks.specs.Means.{id-width, if-there, snapshot-of};
 ghost use Rattle.refs.specs.Search.{after-checks, call-check};
-ghost use Rattle.refs.specs.CheckMeans.{names-checked, names-gate, gated};
+ghost use Rattle.refs.specs.CheckMeans.{names-checked, names-gate, gated, passed};
 
 // Why names are refused, or not: 3, 4 and 5.
 pub enum NamesGate {
@@ -200,5 +200,21 @@ pub(crate) fn check_call(
         ),
         Sizes::NotWhole => stopped(Gate::NotWhole),
         Sizes::TooMany => stopped(Gate::TooMany),
+    }
+}
+
+pub(crate) fn is_passed(gate: Gate) -> bool
+    ensures { λ r. ⌜ r ≡ passed gate ⌝ }
+{
+    match gate {
+        Gate::Passed => true,
+        Gate::NotWhole => false,
+        Gate::TooMany => false,
+        Gate::Refused(_) => false,
+        Gate::Unfit {
+            reason: _,
+            region: _,
+            block: _,
+        } => false,
     }
 }

@@ -6,9 +6,14 @@ ghost use lib.ListN.{drop};
 ghost use Rattle.names.specs.Bytes.{if_then_else_};
 ghost use Rattle.names.specs.Candidates.{full-name};
 ghost use Rattle.names.specs.Means.{content, made-name, if-fits, base-of};
-ghost use Rattle.blocks.specs.Means.{content-in, if-there, snapshot-of};
+ghost use Rattle.blocks.specs.Means.{id-width, content-in, if-there, snapshot-of};
 ghost use Rattle.blocks.specs.Block.{Region};
+ghost use Rattle.refs.specs.Search.{find};
+ghost use Rattle.refs.specs.CheckMeans.{gated, answer-only};
 ghost use Rattle.refs.specs.Means.{Flawless, FitRegions, IndexOf, ClashOf, answered, BlockAnswer, PackedAnswer, RecordAnswer, in-common, candidate-answer, between, is-answer, MadeAnswer, looked-up, pass-names, PassAnswer, last-answer, search-answer};
+use crate::check::Gate;
+use crate::check::check_call;
+use crate::check::is_passed;
 use crate::raw::Answered;
 use crate::raw::Outcome;
 use crate::raw::entry_answer;
@@ -312,4 +317,50 @@ pub(crate) fn find_one_with_verified_input<'a>(
         return b;
     }
     try_remote_head(worktree, common, has_common, packed, e, x)
+}
+
+// What a search gives: the answer counts where the call passed its checks.
+pub struct Found {
+    pub gate: Gate,
+    pub answer: Answered,
+}
+
+// Search for a partial name, in a namespace or in none: refused 1 to 8, not there, refused 9 to 12, or the reference.
+pub fn find<'a>(
+    worktree: &'a [u8],
+    common: &'a [u8],
+    has_common: bool,
+    packed: &[u8],
+    name: &[u8],
+    namespace: &[u8],
+    has_namespace: bool,
+) -> Found
+    ensures { λ r. ⌜ gated (r .gate) (answered (r .answer)) ≡ answer-only (find id-width (snapshot-of (now (worktree .entry)) (if-there «has_common» (now (common .entry))) (now (packed .entry))) (now (name .entry)) (if-there «has_namespace» (now (namespace .entry)))) ⌝ }
+{
+    let call = check_call(
+        worktree,
+        common,
+        has_common,
+        packed,
+        name,
+        namespace,
+        has_namespace,
+    );
+    let gate = call.gate;
+    if !is_passed(gate) {
+        let answer = not_found();
+        return Found { gate, answer };
+    }
+    let expansion = call.expansion;
+    let b = expansion.bytes;
+    let len = expansion.len;
+    let answer = find_one_with_verified_input(
+        worktree,
+        common,
+        has_common,
+        packed,
+        lend(&b, len),
+        name,
+    );
+    Found { gate, answer }
 }
