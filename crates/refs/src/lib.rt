@@ -2,3 +2,4 @@
 pub mod check;
 pub mod find;
 pub mod raw;
+pub mod raw_ext;

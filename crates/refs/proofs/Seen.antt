@@ -1,0 +1,84 @@
+-- The names seen, in an array of which the first n count; and following by them.
+use mathlib.Core.Path.{_≡_, refl, sym, ap, _∙_}
+use Prim.Native.Nat.{ℕ, zero, suc, _+_, _-_, _≤_, _<_}
+use native.Mathlib.Numerals.{add-one}
+use native.Mathlib.Omega.{arith}
+use mathlib.Core.List.{List, [], _∷_, _++_, map}
+use mathlib.Core.Bool.{Bool, true, false, _||_}
+use lib.ListN.{length, take, drop, getD, set, drop-of-length-le}
+use lib.Seq.{drop-cons, take-suc-set}
+use Rattle.names.specs.Bytes.{Bytes, if_then_else_, same}
+use Rattle.names.specs.Means.{content}
+use Rattle.names.specs.declared.name.Name.{Name}
+use Rattle.blocks.specs.Content.{Target, object, symbolic}
+use Rattle.blocks.specs.Snapshot.{Store}
+use Rattle.refs.specs.Answer.{Reference, Answer, nothing, found, refused}
+use Rattle.refs.specs.Search.{search}
+use Rattle.refs.specs.Follow.{Followed, stopped, on-target, on-answer, among, follow-from}
+
+-- ---- the array
+
+-- a name for places that are not there
+abbrev pub no-name : Name
+no-name = record { bytes = []; len = 0 }
+
+module _ (l : List Name) (i : ℕ) (x : Bytes) where
+  pub among-at : i < length l → among x (map content (drop i l)) ≡ (same (content (getD l i no-name)) x || among x (map content (drop (i + 1) l)))
+  unfolding among
+  among-at h = rw (add-one, drop-cons l i no-name h)
+
+  pub among-end : length l ≤ i → among x (map content (drop i l)) ≡ false
+  unfolding among
+  among-end h = rw (drop-of-length-le l h)
+
+map-snoc : (l : List Name) (x : Name) → map content (l ++ (x ∷ [])) ≡ map content l ++ (content x ∷ [])
+map-snoc [] x = refl
+map-snoc (y ∷ l) x = ap (λ (m : List Bytes). content y ∷ m) (map-snoc l x)
+
+-- one more name is stored
+pub stored : (l : List Name) (n : ℕ) (x : Name) → n < length l → map content (take (n + 1) (set l n x)) ≡ map content (take n l) ++ (content x ∷ [])
+stored l n x h = rw (add-one, take-suc-set l n x h) (map-snoc (take n l) x)
+
+-- ---- following depends on which names were seen, not on their order
+
+or-comm : (a b : Bool) → (a || b || false) ≡ (b || a)
+or-comm true true = refl
+or-comm true false = refl
+or-comm false true = refl
+or-comm false false = refl
+
+or-swap : (a b c : Bool) → (a || (b || c)) ≡ (b || (a || c))
+or-swap true true c = refl
+or-swap true false c = refl
+or-swap false true c = refl
+or-swap false false c = refl
+
+-- a name seen last counts as one seen first
+pub among-snoc : (x y : Bytes) (l : List Bytes) → among x (l ++ (y ∷ [])) ≡ among x (y ∷ l)
+unfolding among
+among-snoc x y [] = refl
+among-snoc x y (m ∷ l) = ap (λ (b : Bool). same m x || b) (among-snoc x y l) ∙ or-swap (same m x) (same y x) (among x l)
+
+among-more : (n x : Bytes) (l m : List Bytes) → among x l ≡ among x m → among x (n ∷ l) ≡ among x (n ∷ m)
+unfolding among
+among-more n x l m h = ap (λ (b : Bool). same n x || b) h
+
+module _ (width : ℕ) (e : Bytes) (s : Store) where
+  abbrev Alike : ℕ → Type 0
+  Alike k = (l m : List Bytes) → ((x : Bytes) → among x l ≡ among x m) → (r : Reference) → follow-from width e s k l r ≡ follow-from width e s k m r
+
+  next-alike : (k : ℕ) → Alike k → (l m : List Bytes) → ((x : Bytes) → among x l ≡ among x m) → (r : Reference) (a : Answer)
+      → on-answer l r a (λ x. follow-from width e s k (x .name ∷ l) x) ≡ on-answer m r a (λ x. follow-from width e s k (x .name ∷ m) x)
+  next-alike k ih l m h r nothing = refl
+  next-alike k ih l m h r (refused j) = refl
+  next-alike k ih l m h r (found x) = rw (h (x .name), ih (x .name ∷ l) (x .name ∷ m) (λ y. among-more (x .name) y l m (h y)) x)
+
+  target-alike : (k : ℕ) → Alike k → (l m : List Bytes) → ((x : Bytes) → among x l ≡ among x m) → (r : Reference) (t : Target)
+      → on-target r t (λ t. on-answer l r (search width e s t .answer) (λ x. follow-from width e s k (x .name ∷ l) x)) ≡ on-target r t (λ t. on-answer m r (search width e s t .answer) (λ x. follow-from width e s k (x .name ∷ m) x))
+  target-alike k ih l m h r (object id) = refl
+  target-alike k ih l m h r (symbolic t) = next-alike k ih l m h r (search width e s t .answer)
+
+  pub follow-alike : (k : ℕ) → Alike k
+  unfolding follow-from
+  follow-alike zero l m h r = refl
+  follow-alike (suc k) l m h r = target-alike k (follow-alike k) l m h r (r .target)
