@@ -15,14 +15,15 @@ use names::name::lend;
 use names::name::same_name;
 ghost use mathlib.Core.Path.{_≡_};
 ghost use mathlib.Core.List.{map};
+ghost use mathlib.Core.Bool.{false};
 ghost use Prim.Native.Nat.{_≤_};
 ghost use lib.ListN.{take};
 ghost use Rattle.names.specs.Means.{content};
 ghost use Rattle.blocks.specs.Means.{id-width, if-there, snapshot-of};
 ghost use Rattle.refs.specs.Follow.{max-ref-depth, among, follow};
-ghost use Rattle.refs.specs.Means.{FitRegions, reference-of};
+ghost use Rattle.refs.specs.Means.{FitRegions, reference-of, answered};
 ghost use Rattle.refs.specs.CheckMeans.{gated};
-ghost use Rattle.refs.specs.FollowMeans.{trail-of};
+ghost use Rattle.refs.specs.FollowMeans.{trail-of, AnswerTurn, TurnOf, followed-from, following-of};
 
 // How many names may be seen.
 pub const MAX_REF_DEPTH: usize = 5;
@@ -61,4 +62,79 @@ fn is_seen(names: [Name; MAX_REF_DEPTH], n: usize, x: Name) -> bool
         i += 1;
     }
     false
+}
+
+// One turn: where following ends, or the next reference.
+pub struct Turn {
+    pub go: bool,
+    pub ending: Ending,
+    pub reference: Reference,
+}
+
+fn ended(ending: Ending, reference: Reference) -> Turn
+    ensures { λ t. ⌜ t ≡ record { go = false; ending = ending; reference = reference } ⌝ }
+{
+    Turn {
+        go: false,
+        ending,
+        reference,
+    }
+}
+
+// Where the answer for r's target leads, after the first n names seen.
+fn answer_turn(a: Answered, r: Reference, seen: [Name; MAX_REF_DEPTH], n: usize) -> Turn
+    requires { ⌜ n ≤ max-ref-depth ⌝ }
+    ensures { λ t. ⌜ AnswerTurn (map content (take n seen)) (reference-of r) (answered a) t ⌝ }
+{
+    let outcome = a.outcome;
+    match outcome {
+        Outcome::Nothing => ended(Ending::Stopped(Stop::NotFound), r),
+        Outcome::Refused(why) => ended(Ending::Refused(why), r),
+        Outcome::Found => {
+            let reference = a.reference;
+            let name = reference.name;
+            if is_seen(seen, n, name) {
+                return ended(Ending::Stopped(Stop::Cycle), r);
+            }
+            Turn {
+                go: true,
+                ending: Ending::Reached,
+                reference,
+            }
+        }
+    }
+}
+
+// Where r leads: its target is searched as a partial name again, unchecked.
+fn follow_once<'a>(
+    worktree: &'a [u8],
+    common: &'a [u8],
+    has_common: bool,
+    packed: &[u8],
+    e: &[u8],
+    r: Reference,
+    seen: [Name; MAX_REF_DEPTH],
+    n: usize,
+) -> Turn
+    requires { ⌜ FitRegions (snapshot-of (now worktree) (if-there «has_common» (now common)) (now packed)) × (n ≤ max-ref-depth) ⌝ }
+    ensures { λ t. ⌜ TurnOf (now (e .entry)) (snapshot-of (now (worktree .entry)) (if-there «has_common» (now (common .entry))) (now (packed .entry))) (map content (take n seen)) (reference-of r) t ⌝ }
+{
+    let kind = r.kind;
+    match kind {
+        Kind::Object => ended(Ending::Reached, r),
+        Kind::Symbolic => {
+            let target = r.target;
+            let b = target.bytes;
+            let len = target.len;
+            let a = find_one_with_verified_input(
+                worktree,
+                common,
+                has_common,
+                packed,
+                e,
+                lend(&b, len),
+            );
+            answer_turn(a, r, seen, n)
+        }
+    }
 }
