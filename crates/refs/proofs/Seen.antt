@@ -11,10 +11,14 @@ use Rattle.names.specs.Bytes.{Bytes, if_then_else_, same}
 use Rattle.names.specs.Means.{content}
 use Rattle.names.specs.declared.name.Name.{Name}
 use Rattle.blocks.specs.Content.{Target, object, symbolic}
-use Rattle.blocks.specs.Snapshot.{Store}
+use Rattle.blocks.specs.Snapshot.{Snapshot, Store, store}
+use Rattle.blocks.specs.Means.{id-width}
 use Rattle.refs.specs.Answer.{Reference, Answer, nothing, found, refused}
 use Rattle.refs.specs.Search.{search}
-use Rattle.refs.specs.Follow.{Followed, stopped, on-target, on-answer, among, follow-from}
+use Rattle.refs.specs.Follow.{Followed, stopped, on-target, on-answer, max-ref-depth, among, follow-from}
+use Rattle.refs.specs.Means.{reference-of}
+use Rattle.refs.specs.FollowMeans.{followed-of, turn-of, TurnOf}
+use Rattle.refs.specs.declared.raw_ext.Turn.{Turn}
 
 -- ---- the array
 
@@ -82,3 +86,32 @@ module _ (width : ℕ) (e : Bytes) (s : Store) where
   unfolding follow-from
   follow-alike zero l m h r = refl
   follow-alike (suc k) l m h r = target-alike k (follow-alike k) l m h r (r .target)
+
+-- ---- the turns of following
+
+module _ (e : Bytes) (s : Snapshot) where
+  -- following after n names
+  abbrev pub after-names : ℕ → List Bytes → Reference → Followed
+  after-names n seen r = follow-from id-width e (store id-width s) (max-ref-depth - n) seen r
+
+  module _ (n : ℕ) (h : n < max-ref-depth) (seen : List Bytes) (r : Reference) (t : Turn) (q : TurnOf e s seen r t) where
+    turned : after-names n seen r ≡ turn-of (λ x. after-names (n + 1) (x .name ∷ seen) x) t
+    unfolding follow-from
+    turned =
+        let k : max-ref-depth - n ≡ suc (max-ref-depth - (n + 1)) = omega arith in
+        rw k (sym (q (λ x. after-names (n + 1) (x .name ∷ seen) x)))
+
+    pub turn-ends : t .go ≡ false → followed-of (t .ending) (t .reference) ≡ after-names n seen r
+    turn-ends g = sym (turned ∙ rw g)
+
+    -- the next name goes to the end of those seen
+    pub turn-goes : t .go ≡ true → after-names n seen r ≡ after-names (n + 1) (seen ++ (content (t .reference .name) ∷ [])) (reference-of (t .reference))
+    turn-goes g =
+        turned
+        ∙ rw g
+        (follow-alike id-width e (store id-width s) (max-ref-depth - (n + 1)) (content (t .reference .name) ∷ seen) (seen ++ (content (t .reference .name) ∷ []))
+        (λ x. sym (among-snoc x (content (t .reference .name)) seen)) (reference-of (t .reference)))
+
+  pub depth-reached : (n : ℕ) → max-ref-depth ≤ n → (seen : List Bytes) (r : Reference) → stopped 15 r ≡ after-names n seen r
+  unfolding follow-from
+  depth-reached n h seen r = let k : max-ref-depth - n ≡ 0 = omega arith in rw k

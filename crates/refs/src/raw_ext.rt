@@ -138,3 +138,115 @@ fn follow_once<'a>(
         }
     }
 }
+
+// Following from r: the starting reference does not count as seen.
+fn follow_from<'a>(
+    worktree: &'a [u8],
+    common: &'a [u8],
+    has_common: bool,
+    packed: &[u8],
+    e: &[u8],
+    r: Reference,
+) -> Trail
+    requires { ⌜ FitRegions (snapshot-of (now worktree) (if-there «has_common» (now common)) (now packed)) ⌝ }
+    ensures { λ t. ⌜ trail-of t ≡ followed-from (now (e .entry)) (snapshot-of (now (worktree .entry)) (if-there «has_common» (now (common .entry))) (now (packed .entry))) (reference-of r) ⌝ }
+{
+    let none = empty();
+    let mut seen = [none; MAX_REF_DEPTH];
+    let mut n: usize = 0;
+    let mut last = r;
+    while n < MAX_REF_DEPTH {
+        let t = follow_once(worktree, common, has_common, packed, e, last, seen, n);
+        let reference = t.reference;
+        let go = t.go;
+        if !go {
+            let ending = t.ending;
+            return Trail { ending, reference };
+        }
+        let name = reference.name;
+        seen[n] = name;
+        last = reference;
+        n += 1;
+    }
+    Trail {
+        ending: Ending::Stopped(Stop::TooDeep),
+        reference: last,
+    }
+}
+
+// From a partial name, unchecked, in regions fit for search.
+fn follow_to_object<'a>(
+    worktree: &'a [u8],
+    common: &'a [u8],
+    has_common: bool,
+    packed: &[u8],
+    e: &[u8],
+    x: &[u8],
+) -> Trail
+    requires { ⌜ FitRegions (snapshot-of (now worktree) (if-there «has_common» (now common)) (now packed)) ⌝ }
+    ensures { λ t. ⌜ trail-of t ≡ following-of (now (e .entry)) (snapshot-of (now (worktree .entry)) (if-there «has_common» (now (common .entry))) (now (packed .entry))) (now (x .entry)) ⌝ }
+{
+    let a = find_one_with_verified_input(worktree, common, has_common, packed, e, x);
+    let outcome = a.outcome;
+    let reference = a.reference;
+    match outcome {
+        Outcome::Nothing => Trail {
+            ending: Ending::NotThere,
+            reference,
+        },
+        Outcome::Refused(why) => Trail {
+            ending: Ending::Refused(why),
+            reference,
+        },
+        Outcome::Found => follow_from(worktree, common, has_common, packed, e, reference),
+    }
+}
+
+// What following gives: the trail counts where the call passed its checks.
+pub struct Followed {
+    pub gate: Gate,
+    pub trail: Trail,
+}
+
+// Follow a partial name to its object, in a namespace or in none: refused 1 to 12, not there, the id with the last
+// reference reached, or 13 to 15 with it. The regions are checked once.
+pub fn follow<'a>(
+    worktree: &'a [u8],
+    common: &'a [u8],
+    has_common: bool,
+    packed: &[u8],
+    name: &[u8],
+    namespace: &[u8],
+    has_namespace: bool,
+) -> Followed
+    ensures { λ r. ⌜ gated (r .gate) (trail-of (r .trail)) ≡ follow id-width (snapshot-of (now (worktree .entry)) (if-there «has_common» (now (common .entry))) (now (packed .entry))) (now (name .entry)) (if-there «has_namespace» (now (namespace .entry))) ⌝ }
+{
+    let call = check_call(
+        worktree,
+        common,
+        has_common,
+        packed,
+        name,
+        namespace,
+        has_namespace,
+    );
+    let gate = call.gate;
+    if !is_passed(gate) {
+        let trail = no_trail();
+        return Followed { gate, trail };
+    }
+    let expansion = call.expansion;
+    let b = expansion.bytes;
+    let len = expansion.len;
+    let trail = follow_to_object(worktree, common, has_common, packed, lend(&b, len), name);
+    Followed { gate, trail }
+}
+
+fn no_trail() -> Trail {
+    let a = not_found();
+    let reference = a.reference;
+    Trail {
+        ending: Ending::NotThere,
+        reference,
+    }
+}
