@@ -11,7 +11,9 @@ use Rattle.blocks.specs.Snapshot.{Snapshot, store, store-flaw}
 use Rattle.blocks.specs.Means.{id-width}
 use Rattle.refs.specs.Answer.{Answer}
 use Rattle.refs.specs.Search.{Searched, search, after-checks, call-check, find}
+use Rattle.refs.specs.Follow.{Followed, follow}
 use Rattle.refs.specs.Means.{search-answer}
+use Rattle.refs.specs.FollowMeans.{following-of}
 use Rattle.refs.specs.CheckMeans.{gated, passed, answer-only}
 use Rattle.refs.specs.declared.check.Gate.{Gate}
 use Rattle.refs.specs.declared.check.Gate.the-variants as gate
@@ -39,5 +41,15 @@ module _ (s : Snapshot) (x : Bytes) (o : Option Bytes) (g : Gate) (e : Bytes)
   pub found-passes : passed g ≡ true → (a : Answer) → a ≡ search-answer e s x → gated g a ≡ answer-only (find id-width s x o)
   unfolding find
   found-passes n a q =
+      let p : Passes (call-check s x o) (store-flaw (store id-width s)) e (expansion o) = gate-passes (call-check s x o) (store-flaw (store id-width s)) (expansion o) g e h n in
+      gate-open g n a ∙ rw (p .no-check, p .no-flaw, q, p .same-value)
+
+  pub followed-stops : passed g ≡ false → (a : Followed) → gated g a ≡ follow id-width s x o
+  unfolding follow
+  followed-stops n a = gate-stops (call-check s x o) (store-flaw (store id-width s)) (expansion o) g e h n a _
+
+  pub followed-passes : passed g ≡ true → (a : Followed) → a ≡ following-of e s x → gated g a ≡ follow id-width s x o
+  unfolding follow
+  followed-passes n a q =
       let p : Passes (call-check s x o) (store-flaw (store id-width s)) e (expansion o) = gate-passes (call-check s x o) (store-flaw (store id-width s)) (expansion o) g e h n in
       gate-open g n a ∙ rw (p .no-check, p .no-flaw, q, p .same-value)

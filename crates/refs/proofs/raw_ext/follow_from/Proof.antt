@@ -63,12 +63,12 @@ loop-less c = search needs
 -- src/raw_ext.rt:158:5
 loop-again : tie.Need-loop-again Inv-loop μ-loop
 loop-again c = (
-      omega arith,
-      simp length-set (c .before .before .before .before .before .loop .inv .1),
-      c .before .before .before .before .before .loop .inv .2
+  omega arith,
+  simp length-set (c .before .before .before .before .before .loop .inv .1),
+  c .before .before .before .before .before .loop .inv .2
       ∙ turn-goes (c .before .before .before .before .before .before .before .before .before .before .before .args .e .now) (snapshot-of (c .before .before .before .before .before .before .before .before .before .before .before .args .worktree .now) (if-there (c .before .before .before .before .before .before .before .before .before .before .before .args .has-common) (c .before .before .before .before .before .before .before .before .before .before .before .args .common .now)) (c .before .before .before .before .before .before .before .before .before .before .before .args .packed .now)) (c .before .before .before .before .before .loop .n) (omega arith) (map content (take (c .before .before .before .before .before .loop .n) (c .before .before .before .before .before .loop .seen))) (reference-of (c .before .before .before .before .before .loop .last)) (c .before .before .before .follow-once .result) (c .before .before .before .follow-once .ensures) (not-false _ (c .before .if1 .left))
       ∙ rw (stored (c .before .before .before .before .before .loop .seen) (c .before .before .before .before .before .loop .n) (c .before .before .before .follow-once .result .reference .name) (omega (arith, c .before .before .before .before .before .loop .inv .1))),
-    )
+)
 
 -- src/raw_ext.rt:143:1
 returns-2 : tie.Need-returns-2 Inv-loop μ-loop

@@ -1,3 +1,5 @@
+use mathlib.Core.Path.{_∙_}
+use Rattle.refs.specs.Follow.{following}
 use native.Mathlib.Omega.{arith}
 use borrow.Author.Needs.{needs}
 use Rattle.refs.proofs.raw_ext.follow_to_object.Statement.{statement}
@@ -29,15 +31,18 @@ follow-from-requires c κs = search needs
 
 -- src/raw_ext.rt:178:1
 returns : tie.Need-returns
-returns c = ?
+unfolding following
+returns c = rw (← c .before .before .before .find-one-with-verified-input .ensures, c .enum-told .given .1)
 
 -- src/raw_ext.rt:178:1
 returns-2 : tie.Need-returns-2
-returns-2 c = ?
+unfolding following
+returns-2 c = rw (← c .before .before .before .before .find-one-with-verified-input .ensures, c .before .outcome .given .1)
 
 -- src/raw_ext.rt:178:1
 returns-3 : tie.Need-returns-3
-returns-3 c = ?
+unfolding following
+returns-3 c = c .follow-from .ensures ∙ rw (← c .before .before .before .before .find-one-with-verified-input .ensures, c .before .enum-told2 .given .1)
 
 pub follow-to-object-spec : {M : Type 1} → statement M
 follow-to-object-spec =
