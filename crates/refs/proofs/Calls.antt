@@ -1,5 +1,5 @@
 -- The calls: the checks, and then search or following.
-use mathlib.Core.Path.{_≡_, refl, sym, ap, _∙_}
+use mathlib.Core.Path.{_≡_, refl, sym, _∙_}
 use mathlib.Core.Bool.{true, false}
 use mathlib.Core.Option.{Option, none, some}
 use Rattle.names.specs.Bytes.{Bytes}
@@ -10,7 +10,7 @@ use Rattle.blocks.specs.Fitness.{Flaw}
 use Rattle.blocks.specs.Snapshot.{Snapshot, store, store-flaw}
 use Rattle.blocks.specs.Means.{id-width}
 use Rattle.refs.specs.Answer.{Answer}
-use Rattle.refs.specs.Search.{Searched, search, after-checks, call-check, find}
+use Rattle.refs.specs.Search.{Searched, after-checks, call-check, find}
 use Rattle.refs.specs.Follow.{Followed, follow}
 use Rattle.refs.specs.Means.{search-answer}
 use Rattle.refs.specs.FollowMeans.{following-of}

@@ -1,11 +1,11 @@
 -- Rows 1 to 8: what each check leaves of the definition.
-use mathlib.Core.Path.{_≡_, refl, sym, ap, _∙_}
+use mathlib.Core.Path.{_≡_, refl, sym, _∙_}
 use Prim.Native.Nat.{ℕ}
 use native.Mathlib.Omega.{arith}
 use mathlib.Core.Bool.{Bool, true, false, _&&_, true≢false, false≢true}
 use mathlib.Core.Option.{Option, none, some, Option·map}
 use Rattle.names.specs.Bytes.{Bytes}
-use Rattle.names.specs.Check.{Check, unless, _or-else_, Checked, gives, refuses, checked}
+use Rattle.names.specs.Check.{Check, unless, Checked, gives, refuses, checked}
 use Rattle.names.specs.Name.{fits}
 use Rattle.names.specs.Namespace.{expand, expansion, passes-if-given, names-check, expanded}
 use Rattle.names.specs.WellFormed.{well-formed}

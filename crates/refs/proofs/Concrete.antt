@@ -1,6 +1,6 @@
 -- The premises of demand 3 on a snapshot that is written out: each is a test over the names that its blocks bear.
 use mathlib.Core.Path.{_≡_, refl, sym, subst, _∙_}
-use mathlib.Core.Logic.{_⊎_, inl, inr}
+use mathlib.Core.Logic.{_⊎_, inl}
 use mathlib.Core.List.{List, [], _∷_, _++_}
 use mathlib.Core.Bool.{Bool, true, false, _&&_, _||_, not}
 use Rattle.names.specs.Bytes.{Bytes, if_then_else_, same}
@@ -11,7 +11,7 @@ use Rattle.blocks.specs.Block.{block-name}
 use Rattle.blocks.specs.Entry.{blocks}
 use Rattle.blocks.specs.Snapshot.{Snapshot, or-empty}
 use Rattle.refs.specs.Follow.{among}
-use Rattle.refs.specs.Demand3.{is-named, held-by, bearing, held-in, some-held, is-held, Flat, Agree}
+use Rattle.refs.specs.Demand3.{is-named, held-by, bearing, held-in, is-held, Flat, Agree}
 
 -- ---- lists of names
 

@@ -1,8 +1,8 @@
 -- The premises of demand 3, one of them left out or none, as a test that computes on two snapshots that are written out.
-use mathlib.Core.Path.{_≡_, refl, sym, ap₂, subst, _∙_}
+use mathlib.Core.Path.{_≡_, refl, sym, ap₂, _∙_}
 use mathlib.Core.Logic.{_⊎_, inl, inr}
 use Prim.Native.Nat.{ℕ}
-use mathlib.Core.List.{List, [], _∷_, _++_, map}
+use mathlib.Core.List.{List, [], _∷_}
 use mathlib.Core.Bool.{Bool, true, false, _&&_, not, false≢true}
 use mathlib.Core.Option.{Option, none, some}
 use lib.Dec.{eqb}
@@ -14,9 +14,9 @@ use Rattle.names.specs.Category.{is-private}
 use Rattle.names.specs.Route.{Base, own, shared, route}
 use Rattle.names.proofs.Tests.{and-left, and-right, eqb-eq, not-true}
 use Rattle.names.proofs.Orders.{same-eq}
-use Rattle.blocks.specs.Content.{Target, object, symbolic, Reading, reads, unreadable, lower-case, read}
+use Rattle.blocks.specs.Content.{object, symbolic, Reading, reads, unreadable, lower-case, read}
 use Rattle.blocks.specs.Snapshot.{Snapshot, or-empty, is-there, region-at, size-check, store, store-flaw, Fit}
-use Rattle.refs.specs.Demand3.{Held, held-in, Flat, Agree, PackedId}
+use Rattle.refs.specs.Demand3.{Held, held-in, Agree, PackedId}
 use Rattle.refs.proofs.Computing.{refs-compute}
 use Rattle.refs.proofs.Concrete.{all-of, AllOf, names-in, names-of, flat-names, flat-by, covers, each-by}
 use Rattle.refs.proofs.LeftOut.{Premise, both-fit, no-directory, shared-names, under-refs-only, not-remote-heads, same-id, where-search-reads, no-other-block, worktree-alike, others-agree, both-or-neither-common, kept, Keeps, LooseIn, HasBut, DifferBut, CutBut}

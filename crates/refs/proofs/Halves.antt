@@ -1,6 +1,6 @@
 -- What a search by halves has ruled out: before lo every name is below p, from hi on every name is above it.
 use mathlib.Core.Path.{_≡_, refl, sym, ap, _∙_}
-use Prim.Native.Nat.{ℕ, suc, _+_, _≤_, _<_, Ordering·lt, Ordering·eq, Ordering·gt}
+use Prim.Native.Nat.{ℕ, _+_, _≤_, _<_, Ordering·lt, Ordering·eq, Ordering·gt}
 use native.Mathlib.Omega.{arith}
 use mathlib.Core.Option.{none, some}
 use borrow.Author.Tests.{lt-ltb}

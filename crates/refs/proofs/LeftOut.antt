@@ -13,7 +13,7 @@ use Rattle.names.specs.Category.{is-private}
 use Rattle.names.specs.Route.{Base, route}
 use Rattle.blocks.specs.Content.{object, reads, read}
 use Rattle.blocks.specs.Snapshot.{Snapshot, is-there, region-at, Fit}
-use Rattle.refs.specs.Demand3.{Held, held-in, Flat, Agree, LooseId, PackedId, Has, Differ, Cut}
+use Rattle.refs.specs.Demand3.{held-in, Flat, Agree, LooseId, PackedId, Has, Differ, Cut}
 
 -- the premises, in the words of demand 3
 pub data Premise : Type 0 where

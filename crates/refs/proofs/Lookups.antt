@@ -1,21 +1,20 @@
 -- One candidate: from what the parts of a search promise to the definition's answer.
 use mathlib.Core.Path.{_≡_, refl, sym, ap, _∙_}
-use Prim.Native.Nat.{ℕ, _+_, _<_}
+use Prim.Native.Nat.{ℕ, _<_}
 use mathlib.Core.List.{List, _++_}
 use mathlib.Core.Bool.{Bool, true, false}
 use mathlib.Core.Option.{Option, none, some, Option·map}
-use lib.ListN.{drop}
 use Rattle.names.specs.Bytes.{Bytes, if_then_else_}
 use Rattle.names.specs.Route.{Base, own, shared, at, route, packed-name}
 use Rattle.blocks.specs.Block.{Region}
-use Rattle.blocks.specs.Entry.{Entry, damaged, failed, loose, unread, packed-record, name-of, entry, entries}
+use Rattle.blocks.specs.Entry.{Entry, damaged, failed, loose, unread, packed-record, entry, entries}
 use Rattle.blocks.specs.Means.{id-width, block-count, block-at, name-within, entry-in, if-there, snapshot-of}
 use Rattle.blocks.proofs.Raw.{IsRecord, packed-entry}
 use Rattle.blocks.proofs.Entries.{entry-there}
 use Rattle.refs.specs.Answer.{Answer, nothing, says, strip-answer, block-of}
 use Rattle.blocks.specs.Snapshot.{Store, store, common-or, region-at}
 use Rattle.refs.specs.Search.{clashes, deciding, file-of, record-of, entry-for, answer-of}
-use Rattle.refs.specs.Means.{Flawless, FitRegions, indexed, IndexOf, ClashOf, says-at, in-common, candidate-answer}
+use Rattle.refs.specs.Means.{Flawless, FitRegions, IndexOf, ClashOf, says-at, in-common, candidate-answer}
 use Rattle.refs.specs.declared.find.Index.{Index}
 use Rattle.refs.specs.declared.find.Index.the-variants.{At, Nothing}
 use Rattle.refs.proofs.Regions.{block-named}

@@ -1,16 +1,16 @@
 -- A region without a flaw: every block has a name, and the block of a name is found by halves.
-use mathlib.Core.Path.{_≡_, refl, sym, ap, subst, _∙_}
-use Prim.Native.Nat.{ℕ, zero, suc, _+_, _≤_, _<_, Ordering, Ordering·lt, Ordering·eq, Ordering·gt}
+use mathlib.Core.Path.{_≡_, sym, _∙_}
+use Prim.Native.Nat.{ℕ, zero, suc, _+_, _≤_, _<_, Ordering·gt}
 use native.Mathlib.Omega.{arith}
-use mathlib.Core.List.{List, [], _∷_, _++_}
-use mathlib.Core.Bool.{Bool, true, false, _||_}
+use mathlib.Core.List.{List, _∷_}
+use mathlib.Core.Bool.{true, false, _||_}
 use borrow.Author.Tests.{lt-ltb}
 use mathlib.Core.Option.{Option, none, some}
 use lib.Dec.{isEq}
 use lib.ListN.{length, drop, drop-of-length-le}
 use Rattle.names.specs.Bytes.{Bytes, order}
 use Rattle.names.specs.Name.{directory}
-use Rattle.names.proofs.Orders.{_≺_, ≺-trans, order-eq, order-refl, gt-not-lt}
+use Rattle.names.proofs.Orders.{_≺_, ≺-trans, order-refl, gt-not-lt}
 use Rattle.blocks.specs.Block.{Region}
 use Rattle.blocks.specs.Entry.{Entry, name-of, entry, entries}
 use Rattle.blocks.specs.Means.{id-width, block-count, block-at, name-within, name-in}
@@ -19,10 +19,9 @@ use Rattle.blocks.proofs.Raw.{raw}
 use Rattle.blocks.proofs.Sound.{fit-sound}
 use Rattle.blocks.proofs.Walks.{length-entries}
 use Rattle.blocks.proofs.Entries.{entries-at, sound-name}
-use Rattle.refs.specs.Answer.{bears, block-of}
+use Rattle.refs.specs.Answer.{block-of}
 use Rattle.refs.specs.Search.{clashes}
-use Rattle.refs.specs.Means.{Flawless, indexed, IndexOf}
-use Rattle.refs.specs.declared.find.Index.the-variants.{At, Nothing}
+use Rattle.refs.specs.Means.{Flawless}
 use Rattle.refs.proofs.Blocks.{absent}
 
 -- ---- sorted entries

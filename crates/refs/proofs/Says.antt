@@ -15,7 +15,7 @@ use Rattle.names.proofs.Held.{made-ok, made-is}
 use Rattle.names.specs.Name.{longest}
 use Rattle.blocks.specs.Layout.{name-at, content-at, longest-content}
 use Rattle.blocks.specs.Block.{Region, name-length, content-length, block-name, block-content}
-use Rattle.blocks.specs.Content.{object, lower-case}
+use Rattle.blocks.specs.Content.{object}
 use Rattle.blocks.specs.Entry.{packed-record}
 use Rattle.blocks.specs.Means.{id-width, block-count, block-at, name-in, content-in, entry-in, as-entry, id-in}
 use Rattle.blocks.specs.declared.block.EntryKind.{EntryKind}

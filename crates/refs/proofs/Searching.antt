@@ -5,7 +5,7 @@ use native.Mathlib.Omega.{arith}
 use mathlib.Core.List.{List, [], _∷_, _++_}
 use mathlib.Core.Bool.{Bool, true, false, true≢false, false≢true}
 use Rattle.names.specs.Bytes.{Bytes, bytes, if_then_else_, same}
-use Rattle.names.specs.Name.{fits, is-pseudo}
+use Rattle.names.specs.Name.{is-pseudo}
 use lib.ListN.{take, drop}
 use Rattle.names.specs.Candidates.{Candidate, full-name, pass, passes, last-candidate, sought-packed, candidates}
 use Rattle.names.specs.Means.{content, made-name, if-fits}

@@ -7,7 +7,7 @@ use mathlib.Core.List.{List, [], _∷_, _++_, map}
 use mathlib.Core.Bool.{Bool, true, false, _||_}
 use lib.ListN.{length, take, drop, getD, set, drop-of-length-le}
 use lib.Seq.{drop-cons, take-suc-set}
-use Rattle.names.specs.Bytes.{Bytes, if_then_else_, same}
+use Rattle.names.specs.Bytes.{Bytes, same}
 use Rattle.names.specs.Means.{content}
 use Rattle.names.specs.declared.name.Name.{Name}
 use Rattle.blocks.specs.Content.{Target, object, symbolic}

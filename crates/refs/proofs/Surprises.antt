@@ -4,11 +4,10 @@ use Prim.Native.String.{String}
 use mathlib.Core.List.{[], _∷_, _++_}
 use mathlib.Core.Option.{none, some}
 use lib.ListN.{replicate}
-use Rattle.names.specs.Bytes.{Bytes, bytes}
+use Rattle.names.specs.Bytes.{bytes}
 use Rattle.blocks.proofs.Make.{make}
-use Rattle.blocks.specs.Content.{object}
 use Rattle.blocks.specs.Snapshot.{Snapshot}
-use Rattle.refs.specs.Answer.{Answer, nothing, found, refused}
+use Rattle.refs.specs.Answer.{Answer, nothing, refused}
 use Rattle.refs.specs.Follow.{follow}
 use Rattle.refs.specs.Search.{Searched, find, Result, answers, turned-away, unfit}
 use Rattle.refs.specs.Compared.{Outcome, number, outcome}

@@ -1,51 +1,35 @@
 use mathlib.Core.Path.{_∙_}
-use native.Mathlib.Omega.{arith}
 use borrow.Author.Needs.{needs}
 use Rattle.refs.proofs.check.check_call.Statement.{statement}
 use Rattle.refs.proofs.check.check_call.Tie as tie
-use Rattle.refs.proofs.check.check_call.Reads as reads
-use Rattle.refs.proofs.check.check_call.Lts as lts
-use Rattle.blocks.proofs.fitness.size_check.Reads as size-check-reads
-use Rattle.refs.proofs.check.check_named.Reads as check-named-reads
-use Rattle.refs.proofs.check.stopped.Reads as stopped-reads
 
--- src/check.rt:190:9
 size-check-requires : tie.Need-size-check-requires
 size-check-requires c κs = search needs
 
--- src/check.rt:192:25
 enum-told : tie.Need-enum-told
 enum-told c = search needs
 
--- src/check.rt:192:25
 check-named-requires : tie.Need-check-named-requires
 check-named-requires c κs = search needs
 
--- src/check.rt:201:36
 enum-told-2 : tie.Need-enum-told-2
 enum-told-2 c = search needs
 
--- src/check.rt:201:28
 stopped-requires : tie.Need-stopped-requires
 stopped-requires c κs = search needs
 
--- src/check.rt:202:35
 enum-told-3 : tie.Need-enum-told-3
 enum-told-3 c = search needs
 
--- src/check.rt:202:27
 stopped-requires-2 : tie.Need-stopped-requires-2
 stopped-requires-2 c κs = search needs
 
--- src/check.rt:179:1
 returns : tie.Need-returns
 returns c = c .check-named .ensures ∙ rw (← c .before .before .before .size-check .ensures, c .before .enum-told .given .1)
 
--- src/check.rt:179:1
 returns-2 : tie.Need-returns-2
 returns-2 c = rw (c .stopped .ensures, ← c .before .before .before .size-check .ensures, c .before .enum-told2 .given .1)
 
--- src/check.rt:179:1
 returns-3 : tie.Need-returns-3
 returns-3 c = rw (c .stopped2 .ensures, ← c .before .before .before .size-check .ensures, c .before .enum-told3 .given .1)
 

@@ -3,45 +3,37 @@ use mathlib.Core.Option.{some}
 use Rattle.names.specs.Namespace.{expansion, names-check}
 use Rattle.blocks.specs.Means.{if-there}
 use Rattle.refs.proofs.Checks.{checked-gives, checked-is, checked-refuses}
-use native.Mathlib.Omega.{arith}
 use borrow.Author.Needs.{needs}
 use Rattle.refs.proofs.check.check_named.Statement.{statement}
 use Rattle.refs.proofs.check.check_named.Tie as tie
-use Rattle.refs.proofs.check.check_named.Reads as reads
-use Rattle.refs.proofs.check.check_named.Lts as lts
-use Rattle.refs.proofs.check.check_fit.Reads as check-fit-reads
-use Rattle.refs.proofs.check.check_names.Reads as check-names-reads
-use Rattle.refs.proofs.check.stopped.Reads as stopped-reads
 
--- src/check.rt:169:9
 check-names-requires : tie.Need-check-names-requires
 check-names-requires c κs = search needs
 
--- src/check.rt:173:30
 enum-told : tie.Need-enum-told
 enum-told c = search needs
 
--- src/check.rt:173:30
 check-fit-requires : tie.Need-check-fit-requires
 check-fit-requires c κs = search needs
 
--- src/check.rt:174:28
 enum-known-gate : tie.Need-enum-known-gate
 enum-known-gate c = search needs
 
--- src/check.rt:174:36
 stopped-requires : tie.Need-stopped-requires
 stopped-requires c κs = search needs
 
--- src/check.rt:158:1
 returns : tie.Need-returns
 returns c =
     let g = rw (c .before .enum-told .given .1) at (c .before .before .before .before .check-names .ensures) in
     c .check-fit .ensures ∙ rw (checked-gives (names-check (some (c .before .before .before .before .before .before .before .before .before .before .args .x .now)) (if-there (c .before .before .before .before .before .before .before .before .before .before .args .has-namespace) (c .before .before .before .before .before .before .before .before .before .before .args .namespace .now))) (expansion (if-there (c .before .before .before .before .before .before .before .before .before .before .args .has-namespace) (c .before .before .before .before .before .before .before .before .before .before .args .namespace .now))) _ g, ← checked-is (names-check (some (c .before .before .before .before .before .before .before .before .before .before .args .x .now)) (if-there (c .before .before .before .before .before .before .before .before .before .before .args .has-namespace) (c .before .before .before .before .before .before .before .before .before .before .args .namespace .now))) (expansion (if-there (c .before .before .before .before .before .before .before .before .before .before .args .has-namespace) (c .before .before .before .before .before .before .before .before .before .before .args .namespace .now))) _ g)
 
--- src/check.rt:158:1
 returns-2 : tie.Need-returns-2
-returns-2 c = rw (c .stopped .ensures, checked-refuses (names-check (some (c .before .before .before .before .before .before .before .before .before .before .before .args .x .now)) (if-there (c .before .before .before .before .before .before .before .before .before .before .before .args .has-namespace) (c .before .before .before .before .before .before .before .before .before .before .before .args .namespace .now))) (expansion (if-there (c .before .before .before .before .before .before .before .before .before .before .before .args .has-namespace) (c .before .before .before .before .before .before .before .before .before .before .before .args .namespace .now))) _ (rw (c .before .before .gate .given .1) at (c .before .before .before .before .before .check-names .ensures)))
+returns-2 c =
+    let args = c .before .before .before .before .before .before .before .before .before .before .before .args in
+    let namespace = args .namespace .now in
+    let has-namespace = args .has-namespace in
+    rw
+    (c .stopped .ensures, checked-refuses (names-check (some (args .x .now)) (if-there has-namespace namespace)) (expansion (if-there has-namespace namespace)) _ (rw (c .before .before .gate .given .1) at (c .before .before .before .before .before .check-names .ensures)))
 
 pub check-named-spec : {M : Type 1} → statement M
 check-named-spec =

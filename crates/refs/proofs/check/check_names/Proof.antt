@@ -6,67 +6,56 @@ use Rattle.names.specs.WellFormed.{well-formed}
 use borrow.Author.Tests.{not-true, not-false}
 use Rattle.blocks.specs.Means.{if-there}
 use Rattle.refs.proofs.Checks.{names-long, names-malformed, names-right, names-expanded}
-use native.Mathlib.Omega.{arith}
 use borrow.Author.Needs.{needs}
 use Rattle.refs.proofs.check.check_names.Statement.{statement}
 use Rattle.refs.proofs.check.check_names.Tie as tie
-use Rattle.refs.proofs.check.check_names.Reads as reads
-use Rattle.refs.proofs.check.check_names.Lts as lts
-use Rattle.names.proofs.name.empty.Reads as empty-reads
-use Rattle.names.proofs.namespace.expand.Reads as expand-reads
-use Rattle.refs.proofs.check.both_fit.Reads as both-fit-reads
-use Rattle.refs.proofs.check.both_well_formed.Reads as both-well-formed-reads
-use Rattle.refs.proofs.check.refused_names.Reads as refused-names-reads
 
--- src/check.rt:96:9
 both-fit-requires : tie.Need-both-fit-requires
 both-fit-requires c κs = search needs
 
--- src/check.rt:97:9
 refused-names-requires : tie.Need-refused-names-requires
 refused-names-requires c κs = search needs
 
--- src/check.rt:97:9
 returns : tie.Need-returns
-returns c = rw (c .refused-names .ensures, names-long (c .before .before .before .before .before .args .x .now) (if-there (c .before .before .before .before .before .args .has-namespace) (c .before .before .before .before .before .args .namespace .now)) (sym (c .before .before .both-fit .ensures) ∙ not-true _ (c .before .if1 .taken)))
+returns c =
+    let args = c .before .before .before .before .before .args in
+    rw
+    (c .refused-names .ensures, names-long (args .x .now) (if-there (args .has-namespace) (args .namespace .now)) (sym (c .before .before .both-fit .ensures) ∙ not-true _ (c .before .if1 .taken)))
 
--- src/check.rt:99:9
 both-well-formed-requires : tie.Need-both-well-formed-requires
 both-well-formed-requires c κs = search needs
 
--- src/check.rt:100:9
 refused-names-requires-2 : tie.Need-refused-names-requires-2
 refused-names-requires-2 c κs = search needs
 
--- src/check.rt:100:9
 returns-2 : tie.Need-returns-2
-returns-2 c = rw (c .refused-names2 .ensures, names-malformed (c .before .before .before .before .before .before .before .args .x .now) (if-there (c .before .before .before .before .before .before .before .args .has-namespace) (c .before .before .before .before .before .before .before .args .namespace .now)) (sym (c .before .before .before .before .both-fit .ensures) ∙ not-false _ (c .before .before .before .if1 .left)) (sym (c .before .before .both-well-formed .ensures) ∙ not-true _ (c .before .if2 .taken)))
+returns-2 c =
+    let args = c .before .before .before .before .before .before .before .args in
+    rw
+    (c .refused-names2 .ensures, names-malformed (args .x .now) (if-there (args .has-namespace) (args .namespace .now)) (sym (c .before .before .before .before .both-fit .ensures) ∙ not-false _ (c .before .before .before .if1 .left)) (sym (c .before .before .both-well-formed .ensures) ∙ not-true _ (c .before .if2 .taken)))
 
--- src/check.rt:103:13
 empty-requires : tie.Need-empty-requires
 empty-requires c κs = search needs
 
--- src/check.rt:104:9
 returns-3 : tie.Need-returns-3
-returns-3 c = rw (c .empty .ensures, names-right (c .before .before .before .before .before .before .before .before .args .x .now) (if-there (c .before .before .before .before .before .before .before .before .args .has-namespace) (c .before .before .before .before .before .before .before .before .args .namespace .now)) (sym (c .before .before .before .before .before .both-fit .ensures) ∙ not-false _ (c .before .before .before .before .if1 .left)) (sym (c .before .before .before .both-well-formed .ensures) ∙ not-false _ (c .before .before .if2 .left)), not-true (c .before .before .before .before .before .before .before .before .args .has-namespace) (c .before .if3 .taken))
+returns-3 c =
+    let args = c .before .before .before .before .before .before .before .before .args in
+    let has-namespace = args .has-namespace in
+    rw
+    (c .empty .ensures, names-right (args .x .now) (if-there has-namespace (args .namespace .now)) (sym (c .before .before .before .before .before .both-fit .ensures) ∙ not-false _ (c .before .before .before .before .if1 .left)) (sym (c .before .before .before .both-well-formed .ensures) ∙ not-false _ (c .before .before .if2 .left)), not-true has-namespace (c .before .if3 .taken))
 
--- src/check.rt:109:9
 expand-requires : tie.Need-expand-requires
 expand-requires c κs = search needs
 
--- src/check.rt:115:19
 enum-told : tie.Need-enum-told
 enum-told c = search needs
 
--- src/check.rt:118:39
 enum-known-verdict : tie.Need-enum-known-verdict
 enum-known-verdict c = search needs
 
--- src/check.rt:118:47
 refused-names-requires-3 : tie.Need-refused-names-requires-3
 refused-names-requires-3 c κs = search needs
 
--- src/check.rt:93:1
 returns-4 : tie.Need-returns-4
 returns-4 c =
     let q : c .before .before .before .before .before .before .before .before .before .before .before .before .args .has-namespace ≡ true = not-false (c .before .before .before .before .before .before .before .before .before .before .before .before .args .has-namespace) (c .before .before .before .before .before .if3 .left) in
@@ -74,7 +63,6 @@ returns-4 c =
     let k : (well-formed (c .before .before .before .before .before .before .before .before .before .before .before .before .args .x .now) && passes-if-given well-formed (if-there (c .before .before .before .before .before .before .before .before .before .before .before .before .args .has-namespace) (c .before .before .before .before .before .before .before .before .before .before .before .before .args .namespace .now))) ≡ true = (sym (c .before .before .before .before .before .before .before .both-well-formed .ensures) ∙ not-false _ (c .before .before .before .before .before .before .if2 .left)) in
     rw (q) (names-expanded (c .before .before .before .before .before .before .before .before .before .before .before .before .args .x .now) (c .before .before .before .before .before .before .before .before .before .before .before .before .args .namespace .now) (rw q at h) (rw q at k) _ (rw (c .enum-told .given .1) at (c .before .before .before .before .expand .ensures)))
 
--- src/check.rt:93:1
 returns-5 : tie.Need-returns-5
 returns-5 c =
     let q : c .before .before .before .before .before .before .before .before .before .before .before .before .before .before .args .has-namespace ≡ true = not-false (c .before .before .before .before .before .before .before .before .before .before .before .before .before .before .args .has-namespace) (c .before .before .before .before .before .before .before .if3 .left) in

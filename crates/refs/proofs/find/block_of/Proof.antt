@@ -7,10 +7,6 @@ use Rattle.refs.proofs.Halves.{Bracket, bracket-start, bracket-up, brac
 use borrow.Author.Needs.{needs}
 use Rattle.refs.proofs.find.block_of.Statement.{statement}
 use Rattle.refs.proofs.find.block_of.Tie as tie
-use Rattle.refs.proofs.find.block_of.Reads as reads
-use Rattle.refs.proofs.find.block_of.Lts as lts
-use Rattle.blocks.proofs.block.block_name.Reads as block-name-reads
-use Rattle.names.proofs.bytes.compare_joined.Reads as compare-joined-reads
 
 abbrev Inv-loop : tie.InvT-loop
 Inv-loop s e n lo₀ hi₀ lo hi = Bracket (e ++ n) s lo hi
@@ -18,63 +14,57 @@ Inv-loop s e n lo₀ hi₀ lo hi = Bracket (e ++ n) s lo hi
 abbrev μ-loop : tie.MeasureT-loop
 μ-loop s e n lo₀ hi₀ lo hi = hi - lo
 
--- src/find.rt:22:5
 loop-holds : tie.Need-loop-holds Inv-loop μ-loop
 loop-holds c = bracket-start _ _
 
--- src/find.rt:23:25
 sub-mid : tie.Need-sub-mid Inv-loop μ-loop
 sub-mid c = search needs
 
--- src/find.rt:23:19
 add-mid : tie.Need-add-mid Inv-loop μ-loop
 add-mid c = search needs
 
--- src/find.rt:24:32
 block-name-requires : tie.Need-block-name-requires Inv-loop μ-loop
 block-name-requires c κs = search needs
 
--- src/find.rt:24:13
 compare-joined-requires : tie.Need-compare-joined-requires Inv-loop μ-loop
 compare-joined-requires c κs = search needs
 
--- src/find.rt:26:33
 enum-told : tie.Need-enum-told Inv-loop μ-loop
 enum-told c = search needs
 
--- src/find.rt:26:33
 add-lo : tie.Need-add-lo Inv-loop μ-loop
 add-lo c = search needs
 
--- src/find.rt:22:5
 loop-less : tie.Need-loop-less Inv-loop μ-loop
 loop-less c = search needs
 
--- src/find.rt:22:5
 loop-again : tie.Need-loop-again Inv-loop μ-loop
-loop-again c = bracket-up _ _ (c .before .before .before .before .before .loop .lo) (c .before .before .before .before .before .loop .hi) _ (c .before .before .before .before .before .loop .inv) (omega arith) (omega arith) (sym (rw (c .before .before .before .block-name .ensures) at (c .before .before .compare-joined .ensures)) ∙ ap ordering (c .enum-told .given .1))
+loop-again c =
+    let loop = c .before .before .before .before .before .loop in
+    bracket-up _ _ (loop .lo) (loop .hi) _ (loop .inv) (omega arith) (omega arith)
+    (sym (rw (c .before .before .before .block-name .ensures) at (c .before .before .compare-joined .ensures)) ∙ ap ordering (c .enum-told .given .1))
 
--- src/find.rt:27:29
 enum-told-2 : tie.Need-enum-told-2 Inv-loop μ-loop
 enum-told-2 c = search needs
 
--- src/find.rt:27:29
 returns : tie.Need-returns Inv-loop μ-loop
-returns c = bracket-found _ _ (c .before .before .before .before .before .loop .lo) (c .before .before .before .before .before .loop .hi) _ (c .before .before .before .before .before .loop .inv) (omega arith) (omega arith) (sym (rw (c .before .before .before .block-name .ensures) at (c .before .before .compare-joined .ensures)) ∙ ap ordering (c .enum-told2 .given .1))
+returns c =
+    let loop = c .before .before .before .before .before .loop in
+    bracket-found _ _ (loop .lo) (loop .hi) _ (loop .inv) (omega arith) (omega arith)
+    (sym (rw (c .before .before .before .block-name .ensures) at (c .before .before .compare-joined .ensures)) ∙ ap ordering (c .enum-told2 .given .1))
 
--- src/find.rt:28:31
 enum-told-3 : tie.Need-enum-told-3 Inv-loop μ-loop
 enum-told-3 c = search needs
 
--- src/find.rt:22:5
 loop-less-2 : tie.Need-loop-less-2 Inv-loop μ-loop
 loop-less-2 c = search needs
 
--- src/find.rt:22:5
 loop-again-2 : tie.Need-loop-again-2 Inv-loop μ-loop
-loop-again-2 c = bracket-down _ _ (c .before .before .before .before .before .loop .lo) (c .before .before .before .before .before .loop .hi) _ (c .before .before .before .before .before .loop .inv) (omega arith) (omega arith) (sym (rw (c .before .before .before .block-name .ensures) at (c .before .before .compare-joined .ensures)) ∙ ap ordering (c .enum-told3 .given .1))
+loop-again-2 c =
+    let loop = c .before .before .before .before .before .loop in
+    bracket-down _ _ (loop .lo) (loop .hi) _ (loop .inv) (omega arith) (omega arith)
+    (sym (rw (c .before .before .before .block-name .ensures) at (c .before .before .compare-joined .ensures)) ∙ ap ordering (c .enum-told3 .given .1))
 
--- src/find.rt:17:1
 returns-2 : tie.Need-returns-2 Inv-loop μ-loop
 returns-2 c = bracket-none _ _ _ _ (c .before .loop .inv) (c .loop-test .left)
 

@@ -1,57 +1,41 @@
 use borrow.Author.Tests.{ne-eqb}
-use native.Mathlib.Omega.{arith}
 use borrow.Author.Needs.{needs}
 use Rattle.refs.proofs.find.candidate_for.Statement.{statement}
 use Rattle.refs.proofs.find.candidate_for.Tie as tie
-use Rattle.refs.proofs.find.candidate_for.Reads as reads
-use Rattle.refs.proofs.find.candidate_for.Lts as lts
-use Rattle.names.proofs.name.construct_full_name_ref.Reads as construct-full-name-ref-reads
 
--- src/find.rt:201:41
 slice-aggregate-construct-full-name-ref : tie.Need-slice-aggregate-construct-full-name-ref
 slice-aggregate-construct-full-name-ref c = search needs
 
--- src/find.rt:201:14
 construct-full-name-ref-requires : tie.Need-construct-full-name-ref-requires
 construct-full-name-ref-requires c κs = search needs
 
--- src/find.rt:202:41
 slice-aggregate-construct-full-name-ref-2 : tie.Need-slice-aggregate-construct-full-name-ref-2
 slice-aggregate-construct-full-name-ref-2 c = search needs
 
--- src/find.rt:202:14
 construct-full-name-ref-requires-2 : tie.Need-construct-full-name-ref-requires-2
 construct-full-name-ref-requires-2 c κs = search needs
 
--- src/find.rt:203:41
 slice-aggregate-construct-full-name-ref-3 : tie.Need-slice-aggregate-construct-full-name-ref-3
 slice-aggregate-construct-full-name-ref-3 c = search needs
 
--- src/find.rt:203:14
 construct-full-name-ref-requires-3 : tie.Need-construct-full-name-ref-requires-3
 construct-full-name-ref-requires-3 c κs = search needs
 
--- src/find.rt:204:41
 slice-aggregate-construct-full-name-ref-4 : tie.Need-slice-aggregate-construct-full-name-ref-4
 slice-aggregate-construct-full-name-ref-4 c = search needs
 
--- src/find.rt:204:14
 construct-full-name-ref-requires-4 : tie.Need-construct-full-name-ref-requires-4
 construct-full-name-ref-requires-4 c κs = search needs
 
--- src/find.rt:197:1
 returns : tie.Need-returns
 returns c = rw (c .before .before .match .keys1) (c .construct-full-name-ref .ensures)
 
--- src/find.rt:197:1
 returns-2 : tie.Need-returns-2
 returns-2 c = rw (c .before .before .match .keys2) (c .construct-full-name-ref2 .ensures)
 
--- src/find.rt:197:1
 returns-3 : tie.Need-returns-3
 returns-3 c = rw (c .before .before .match .keys3) (c .construct-full-name-ref3 .ensures)
 
--- src/find.rt:197:1
 returns-4 : tie.Need-returns-4
 returns-4 c =
     let d = c .before .before .before .before .args .d in

@@ -12,10 +12,6 @@ use Rattle.refs.proofs.Regions.{clash-here, clash-next, clash-end}
 use borrow.Author.Needs.{needs}
 use Rattle.refs.proofs.find.has_clash.Statement.{statement}
 use Rattle.refs.proofs.find.has_clash.Tie as tie
-use Rattle.refs.proofs.find.has_clash.Reads as reads
-use Rattle.refs.proofs.find.has_clash.Lts as lts
-use Rattle.blocks.proofs.block.block_name.Reads as block-name-reads
-use Rattle.names.proofs.bytes.directory_joined.Reads as directory-joined-reads
 
 abbrev Inv-loop : tie.InvT-loop
 Inv-loop s e n count i₀ i =
@@ -24,37 +20,36 @@ Inv-loop s e n count i₀ i =
 abbrev μ-loop : tie.MeasureT-loop
 μ-loop s e n count i₀ i = block-count s - i
 
--- src/find.rt:41:5
 loop-holds : tie.Need-loop-holds Inv-loop μ-loop
 loop-holds c = (omega arith, λ r f. refl)
 
--- src/find.rt:42:29
 block-name-requires : tie.Need-block-name-requires Inv-loop μ-loop
 block-name-requires c κs = search needs
 
--- src/find.rt:42:12
 directory-joined-requires : tie.Need-directory-joined-requires Inv-loop μ-loop
 directory-joined-requires c κs = search needs
 
--- src/find.rt:43:13
 returns : tie.Need-returns Inv-loop μ-loop
-returns c r f = sym (c .before .before .before .before .loop .inv .1 r f ∙ clash-here _ (c .before .before .before .before .before .before .before .before .args .s .now) r f (c .before .before .before .before .loop .i) (omega arith) (sym (rw (c .before .before .block-name .ensures) at (c .before .directory-joined .ensures)) ∙ c .if1 .taken))
+returns c r f =
+    let loop = c .before .before .before .before .loop in
+    sym
+    (loop .inv .1 r f ∙ clash-here _ (c .before .before .before .before .before .before .before .before .args .s .now) r f (loop .i) (omega arith) (sym (rw (c .before .before .block-name .ensures) at (c .before .directory-joined .ensures)) ∙ c .if1 .taken))
 
--- src/find.rt:45:9
 add-i : tie.Need-add-i Inv-loop μ-loop
 add-i c = search needs
 
--- src/find.rt:41:5
 loop-less : tie.Need-loop-less Inv-loop μ-loop
 loop-less c = search needs
 
--- src/find.rt:41:5
 loop-again : tie.Need-loop-again Inv-loop μ-loop
-loop-again c = (omega arith, λ r f. c .before .before .before .before .loop .inv .1 r f ∙ clash-next _ (c .before .before .before .before .before .before .before .before .args .s .now) r f (c .before .before .before .before .loop .i) (omega arith) (sym (rw (c .before .before .block-name .ensures) at (c .before .directory-joined .ensures)) ∙ c .if1 .left))
+loop-again c =
+    let loop = c .before .before .before .before .loop in
+    (omega arith, λ r f. loop .inv .1 r f ∙ clash-next _ (c .before .before .before .before .before .before .before .before .args .s .now) r f (loop .i) (omega arith) (sym (rw (c .before .before .block-name .ensures) at (c .before .directory-joined .ensures)) ∙ c .if1 .left))
 
--- src/find.rt:36:1
 returns-2 : tie.Need-returns-2 Inv-loop μ-loop
-returns-2 c r f = sym (c .before .loop .inv .1 r f ∙ clash-end _ (c .before .before .before .before .before .args .s .now) r f (c .before .loop .i) (omega arith))
+returns-2 c r f =
+    let loop = c .before .loop in
+    sym (loop .inv .1 r f ∙ clash-end _ (c .before .before .before .before .before .args .s .now) r f (loop .i) (omega arith))
 
 pub has-clash-spec : {M : Type 1} → statement M
 has-clash-spec =

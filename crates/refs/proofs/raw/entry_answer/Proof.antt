@@ -1,97 +1,69 @@
 use mathlib.Core.Path.{_∙_}
-use native.Mathlib.Omega.{arith}
 use Rattle.refs.proofs.Says.{said, said-record, said-peeled}
 use borrow.Author.Needs.{needs}
 use Rattle.refs.proofs.raw.entry_answer.Statement.{statement}
 use Rattle.refs.proofs.raw.entry_answer.Tie as tie
-use Rattle.refs.proofs.raw.entry_answer.Reads as reads
-use Rattle.refs.proofs.raw.entry_answer.Lts as lts
-use Rattle.refs.proofs.raw.loose.Reads as loose-reads
-use Rattle.refs.proofs.raw.not_found.Reads as not-found-reads
-use Rattle.refs.proofs.raw.packed.Reads as packed-reads
-use Rattle.refs.proofs.raw.refused.Reads as refused-reads
 
--- src/raw.rt:180:27
 enum-told : tie.Need-enum-told
 enum-told c = search needs
 
--- src/raw.rt:180:27
 not-found-requires : tie.Need-not-found-requires
 not-found-requires c κs = search needs
 
--- src/raw.rt:181:39
 enum-told-2 : tie.Need-enum-told-2
 enum-told-2 c = search needs
 
--- src/raw.rt:181:31
 refused-requires : tie.Need-refused-requires
 refused-requires c κs = search needs
 
--- src/raw.rt:182:38
 enum-told-3 : tie.Need-enum-told-3
 enum-told-3 c = search needs
 
--- src/raw.rt:182:30
 refused-requires-2 : tie.Need-refused-requires-2
 refused-requires-2 c κs = search needs
 
--- src/raw.rt:183:29
 enum-told-4 : tie.Need-enum-told-4
 enum-told-4 c = search needs
 
--- src/raw.rt:183:29
 loose-requires : tie.Need-loose-requires
 loose-requires c κs = search needs
 
--- src/raw.rt:184:38
 enum-told-5 : tie.Need-enum-told-5
 enum-told-5 c = search needs
 
--- src/raw.rt:184:30
 refused-requires-3 : tie.Need-refused-requires-3
 refused-requires-3 c κs = search needs
 
--- src/raw.rt:185:30
 enum-told-6 : tie.Need-enum-told-6
 enum-told-6 c = search needs
 
--- src/raw.rt:185:30
 packed-requires : tie.Need-packed-requires
 packed-requires c κs = search needs
 
--- src/raw.rt:186:36
 enum-told-7 : tie.Need-enum-told-7
 enum-told-7 c = search needs
 
--- src/raw.rt:186:36
 packed-requires-2 : tie.Need-packed-requires-2
 packed-requires-2 c κs = search needs
 
--- src/raw.rt:175:1
 returns : tie.Need-returns
 returns c r s k b = said r s k _ _ _ _ b _ (c .not-found .ensures ∙ rw (c .before .enum-told .given .1))
 
--- src/raw.rt:175:1
 returns-2 : tie.Need-returns-2
 returns-2 c r s k b = said r s k _ _ _ _ b _ (c .refused .ensures ∙ rw (c .before .enum-told2 .given .1))
 
--- src/raw.rt:175:1
 returns-3 : tie.Need-returns-3
 returns-3 c r s k b = said r s k _ _ _ _ b _ (c .refused2 .ensures ∙ rw (c .before .enum-told3 .given .1))
 
--- src/raw.rt:175:1
 returns-4 : tie.Need-returns-4
 returns-4 c r s k b = said r s k _ _ _ _ b _ (c .loose .ensures ∙ rw (c .before .enum-told4 .given .1))
 
--- src/raw.rt:175:1
 returns-5 : tie.Need-returns-5
 returns-5 c r s k b = said r s k _ _ _ _ b _ (c .refused3 .ensures ∙ rw (c .before .enum-told5 .given .1))
 
--- src/raw.rt:175:1
 returns-6 : tie.Need-returns-6
 returns-6 c r s k b = said-record r s k _ _ _ _ b (c .before .enum-told6 .given .1) _ (c .packed .ensures)
 
--- src/raw.rt:175:1
 returns-7 : tie.Need-returns-7
 returns-7 c r s k b = said-peeled r s k _ _ _ _ b (c .before .enum-told7 .given .1) _ (c .packed2 .ensures)
 

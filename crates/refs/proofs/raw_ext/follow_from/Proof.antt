@@ -13,10 +13,6 @@ use native.Mathlib.Omega.{arith}
 use borrow.Author.Needs.{needs}
 use Rattle.refs.proofs.raw_ext.follow_from.Statement.{statement}
 use Rattle.refs.proofs.raw_ext.follow_from.Tie as tie
-use Rattle.refs.proofs.raw_ext.follow_from.Reads as reads
-use Rattle.refs.proofs.raw_ext.follow_from.Lts as lts
-use Rattle.names.proofs.name.empty.Reads as empty-reads
-use Rattle.refs.proofs.raw_ext.follow_once.Reads as follow-once-reads
 
 abbrev Inv-loop : tie.InvT-loop
 Inv-loop worktree common has-common packed e seen₀ n₀ last₀ seen n last =
@@ -28,39 +24,37 @@ Inv-loop worktree common has-common packed e seen₀ n₀ last₀ seen n last =
 abbrev μ-loop : tie.MeasureT-loop
 μ-loop worktree common has-common packed e seen₀ n₀ last₀ seen n last = max-ref-depth - n
 
--- src/raw_ext.rt:154:9
 empty-requires : tie.Need-empty-requires Inv-loop μ-loop
 empty-requires c κs = search needs
 
--- src/raw_ext.rt:158:5
 loop-holds : tie.Need-loop-holds Inv-loop μ-loop
 loop-holds c = (omega arith, refl, refl)
 
--- src/raw_ext.rt:159:13
 follow-once-requires : tie.Need-follow-once-requires Inv-loop μ-loop
 follow-once-requires c κs = (c .before .before .before .before .before .before .before .pre, omega arith)
 
--- src/raw_ext.rt:164:13
 returns : tie.Need-returns Inv-loop μ-loop
-returns c = turn-ends (c .before .before .before .before .before .before .before .before .before .before .args .e .now) (snapshot-of (c .before .before .before .before .before .before .before .before .before .before .args .worktree .now) (if-there (c .before .before .before .before .before .before .before .before .before .before .args .has-common) (c .before .before .before .before .before .before .before .before .before .before .args .common .now)) (c .before .before .before .before .before .before .before .before .before .before .args .packed .now)) (c .before .before .before .before .loop .n) (omega arith) (map content (take (c .before .before .before .before .loop .n) (c .before .before .before .before .loop .seen))) (reference-of (c .before .before .before .before .loop .last)) (c .before .before .follow-once .result) (c .before .before .follow-once .ensures) (not-true _ (c .if1 .taken)) ∙ sym (c .before .before .before .before .loop .inv .2)
+returns c =
+    let args = c .before .before .before .before .before .before .before .before .before .before .args in
+    let loop = c .before .before .before .before .loop in
+    let follow-once = c .before .before .follow-once in
+    turn-ends (args .e .now) (snapshot-of (args .worktree .now) (if-there (args .has-common) (args .common .now)) (args .packed .now)) (loop .n)
+    (omega arith) (map content (take (loop .n) (loop .seen))) (reference-of (loop .last)) (follow-once .result) (follow-once .ensures)
+    (not-true _ (c .if1 .taken))
+    ∙ sym (loop .inv .2)
 
--- src/raw_ext.rt:167:9
 mul-seen : tie.Need-mul-seen Inv-loop μ-loop
 mul-seen c = omega arith
 
--- src/raw_ext.rt:167:9
 array-set-from-seen : tie.Need-array-set-from-seen Inv-loop μ-loop
 array-set-from-seen c = search needs
 
--- src/raw_ext.rt:169:9
 add-n : tie.Need-add-n Inv-loop μ-loop
 add-n c = search needs
 
--- src/raw_ext.rt:158:5
 loop-less : tie.Need-loop-less Inv-loop μ-loop
 loop-less c = search needs
 
--- src/raw_ext.rt:158:5
 loop-again : tie.Need-loop-again Inv-loop μ-loop
 loop-again c = (
   omega arith,
@@ -70,9 +64,13 @@ loop-again c = (
       ∙ rw (stored (c .before .before .before .before .before .loop .seen) (c .before .before .before .before .before .loop .n) (c .before .before .before .follow-once .result .reference .name) (omega (arith, c .before .before .before .before .before .loop .inv .1))),
 )
 
--- src/raw_ext.rt:143:1
 returns-2 : tie.Need-returns-2 Inv-loop μ-loop
-returns-2 c = depth-reached (c .before .before .before .before .before .before .before .args .e .now) (snapshot-of (c .before .before .before .before .before .before .before .args .worktree .now) (if-there (c .before .before .before .before .before .before .before .args .has-common) (c .before .before .before .before .before .before .before .args .common .now)) (c .before .before .before .before .before .before .before .args .packed .now)) (c .before .loop .n) (omega arith) (map content (take (c .before .loop .n) (c .before .loop .seen))) (reference-of (c .before .loop .last)) ∙ sym (c .before .loop .inv .2)
+returns-2 c =
+    let args = c .before .before .before .before .before .before .before .args in
+    let loop = c .before .loop in
+    depth-reached (args .e .now) (snapshot-of (args .worktree .now) (if-there (args .has-common) (args .common .now)) (args .packed .now)) (loop .n)
+    (omega arith) (map content (take (loop .n) (loop .seen))) (reference-of (loop .last))
+    ∙ sym (loop .inv .2)
 
 pub follow-from-spec : {M : Type 1} → statement M
 follow-from-spec =

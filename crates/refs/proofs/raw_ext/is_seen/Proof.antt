@@ -10,9 +10,6 @@ use native.Mathlib.Omega.{arith}
 use borrow.Author.Needs.{needs}
 use Rattle.refs.proofs.raw_ext.is_seen.Statement.{statement}
 use Rattle.refs.proofs.raw_ext.is_seen.Tie as tie
-use Rattle.refs.proofs.raw_ext.is_seen.Reads as reads
-use Rattle.refs.proofs.raw_ext.is_seen.Lts as lts
-use Rattle.names.proofs.name.same_name.Reads as same-name-reads
 
 abbrev Inv-loop : tie.InvT-loop
 Inv-loop n x names i₀ i = (i ≤ n) × (among (content x) (map content (take n names)) ≡ among (content x) (map content (drop i (take n names))))
@@ -23,43 +20,34 @@ abbrev μ-loop : tie.MeasureT-loop
 five : (c : tie.Start Inv-loop μ-loop) → length (c .args .t1) ≡ 5
 five c = c .good .0 .1 .0 .1
 
--- src/raw_ext.rt:56:5
 loop-holds : tie.Need-loop-holds Inv-loop μ-loop
 loop-holds c = (omega arith, refl)
 
--- src/raw_ext.rt:57:17
 mul-y : tie.Need-mul-y Inv-loop μ-loop
 mul-y c = omega arith
 
--- src/raw_ext.rt:57:17
 array-copy-out-y : tie.Need-array-copy-out-y Inv-loop μ-loop
 array-copy-out-y c = omega arith
 
--- src/raw_ext.rt:58:12
 same-name-requires : tie.Need-same-name-requires Inv-loop μ-loop
 same-name-requires c κs = search needs
 
--- src/raw_ext.rt:59:13
 returns : tie.Need-returns Inv-loop μ-loop
 returns c =
     let h : c .before .before .before .before .loop .i < length (take (c .before .before .before .before .before .args .n) (c .before .before .before .before .before .args .t1)) = simp length-take (omega (arith, five (c .before .before .before .before .before))) in
     rw (c .before .before .before .before .loop .inv .1, among-at (take (c .before .before .before .before .before .args .n) (c .before .before .before .before .before .args .t1)) (c .before .before .before .before .loop .i) (content (c .before .before .before .before .before .args .x)) h, getD-take (c .before .before .before .before .before .args .n) (c .before .before .before .before .before .args .t1) (c .before .before .before .before .loop .i) no-name (omega arith), ← c .before .same-name .ensures, c .if1 .taken)
 
--- src/raw_ext.rt:61:9
 add-i : tie.Need-add-i Inv-loop μ-loop
 add-i c = search needs
 
--- src/raw_ext.rt:56:5
 loop-less : tie.Need-loop-less Inv-loop μ-loop
 loop-less c = search needs
 
--- src/raw_ext.rt:56:5
 loop-again : tie.Need-loop-again Inv-loop μ-loop
 loop-again c =
     let h : c .before .before .before .before .loop .i < length (take (c .before .before .before .before .before .args .n) (c .before .before .before .before .before .args .t1)) = simp length-take (omega (arith, five (c .before .before .before .before .before))) in
     (omega arith, rw (c .before .before .before .before .loop .inv .1, among-at (take (c .before .before .before .before .before .args .n) (c .before .before .before .before .before .args .t1)) (c .before .before .before .before .loop .i) (content (c .before .before .before .before .before .args .x)) h, getD-take (c .before .before .before .before .before .args .n) (c .before .before .before .before .before .args .t1) (c .before .before .before .before .loop .i) no-name (omega arith), ← c .before .same-name .ensures, c .if1 .left))
 
--- src/raw_ext.rt:51:1
 returns-2 : tie.Need-returns-2 Inv-loop μ-loop
 returns-2 c =
     let g = c .before .before .args in
