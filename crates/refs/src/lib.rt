@@ -1,3 +1,4 @@
 // Search, following and listing. The definitions are in specs/, demand 3 in proofs/Claims.antt.
 pub mod find;
+pub mod overlay_iter;
 pub mod raw;

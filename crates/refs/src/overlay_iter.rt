@@ -1,0 +1,266 @@
+// The listing (overlay_iter.rs): loose and packed entries as one run, ordered by name.
+ghost use mathlib.Core.Path.{_≡_};
+ghost use mathlib.Core.Option.{none};
+ghost use Prim.Native.Nat.{suc, _<_};
+ghost use Rattle.names.specs.Bytes.{Bytes, starts-with};
+ghost use Rattle.names.specs.Check.{checked};
+ghost use Rattle.names.specs.Namespace.{expansion, names-check};
+ghost use Rattle.names.specs.Means.{content};
+ghost use Rattle.blocks.specs.Entry.{entry, entries};
+ghost use Rattle.blocks.specs.Block.{Region};
+ghost use Rattle.blocks.specs.Snapshot.{or-empty};
+ghost use Rattle.blocks.specs.Means.{id-width, region-of, block-count, block-at, name-in, if-there, snapshot-of};
+ghost use Rattle.refs.specs.Answer.{Reference, strip-answer};
+ghost use Rattle.refs.specs.View.{scope, worktree-shows, common-shows};
+ghost use Rattle.refs.specs.Listing.{none-left, first-seen, peek, least, past, choose};
+ghost use Rattle.refs.specs.Run.{start, open-listing, is-nothing, unless-ended, moved, step};
+ghost use Rattle.refs.specs.Means.{answered, answer-with};
+ghost use Rattle.refs.specs.ListMeans.{state-of, opened, shows-in, seen-in, is-error, is-left, waiting-of};
+use crate::raw::Answered;
+use crate::raw::Outcome;
+use crate::raw::Reason;
+use crate::raw::Reference;
+use crate::raw::entry_answer;
+use crate::raw::name_at;
+use crate::raw::not_found;
+use crate::raw::strip_answer;
+use blocks::block::BLOCK_SIZE;
+use blocks::block::EntryKind;
+use blocks::block::Region;
+use blocks::block::block_content;
+use blocks::block::block_name;
+use blocks::block::entry_kind;
+use blocks::fitness::Sizes;
+use blocks::fitness::size_check;
+use names::bytes::Order;
+use names::bytes::compare;
+use names::bytes::starts_with;
+use names::fullname::is_private;
+use names::name::Name;
+use names::name::Refusal;
+use names::name::Verdict;
+use names::name::empty;
+use names::name::lend;
+use names::namespace::expand;
+use names::validate::well_formed;
+
+// The listing's state: where the next block of each region is looked for, whether it is ended, and the namespace's
+// expansion, empty where there is none.
+pub struct Listing {
+    pub worktree: usize,
+    pub common: usize,
+    pub packed: usize,
+    pub ended: bool,
+    pub expansion: Name,
+}
+
+// Whether a listing was opened: refused 1 and 2 for the regions, 3 to 5 for the namespace.
+pub enum Opening {
+    Opened,
+    NotWhole,
+    TooMany,
+    Refused(Refusal),
+}
+
+// An opening; the state counts where the listing was opened.
+pub struct Opened {
+    pub opening: Opening,
+    pub state: Listing,
+}
+
+fn not_opened(opening: Opening) -> Opened
+    ensures { λ o. ⌜ o .opening ≡ opening ⌝ }
+{
+    let expansion = empty();
+    let state = fresh(expansion);
+    Opened { opening, state }
+}
+
+// Each position at its region's first block.
+fn fresh(expansion: Name) -> Listing
+    ensures { λ s. ⌜ state-of s ≡ start (content expansion) ⌝ }
+{
+    Listing {
+        worktree: 0,
+        common: 0,
+        packed: 0,
+        ended: false,
+        expansion,
+    }
+}
+
+fn open_named(namespace: &[u8], has_namespace: bool) -> Opened
+    ensures { λ o. ⌜ opened o ≡ checked (names-check none (if-there «has_namespace» (now (namespace .entry)))) (start (expansion (if-there «has_namespace» (now (namespace .entry))))) ⌝ }
+{
+    if !has_namespace {
+        let name = empty();
+        let state = fresh(name);
+        return Opened {
+            opening: Opening::Opened,
+            state,
+        };
+    }
+    let e = expand(namespace);
+    let verdict = e.verdict;
+    let found = e.name;
+    let name = found.0;
+    match verdict {
+        Verdict::Accepted => {
+            let state = fresh(name);
+            Opened {
+                opening: Opening::Opened,
+                state,
+            }
+        }
+        Verdict::Refused(why) => not_opened(Opening::Refused(why)),
+    }
+}
+
+// The opening: the regions are checked before the namespace.
+pub fn open(
+    worktree: &[u8],
+    common: &[u8],
+    has_common: bool,
+    packed: &[u8],
+    namespace: &[u8],
+    has_namespace: bool,
+) -> Opened
+    ensures { λ o. ⌜ opened o ≡ open-listing (snapshot-of (now (worktree .entry)) (if-there «has_common» (now (common .entry))) (now (packed .entry))) (if-there «has_namespace» (now (namespace .entry))) ⌝ }
+{
+    let sizes = size_check(worktree, common, has_common, packed);
+    match sizes {
+        Sizes::Right => open_named(namespace, has_namespace),
+        Sizes::NotWhole => not_opened(Opening::NotWhole),
+        Sizes::TooMany => not_opened(Opening::TooMany),
+    }
+}
+
+// Does a loose name begin as the names of the listing do?
+fn loose_begins(n: &[u8], e: &[u8]) -> bool
+    ensures { λ r. ⌜ r ≡ starts-with (scope (now (e .entry)) .loose-under) (now (n .entry)) ⌝ }
+{
+    if e.len() == 0 {
+        return starts_with(n, b"refs/");
+    }
+    starts_with(n, e)
+}
+
+fn worktree_shows(n: &[u8], e: &[u8]) -> bool
+    ensures { λ r. ⌜ r ≡ worktree-shows (scope (now (e .entry))) (now (n .entry)) ⌝ }
+{
+    if !loose_begins(n, e) {
+        return false;
+    }
+    well_formed(n)
+}
+
+// A private name of the common region is another worktree's affair.
+fn common_shows(n: &[u8], e: &[u8]) -> bool
+    ensures { λ r. ⌜ r ≡ common-shows (scope (now (e .entry))) (now (n .entry)) ⌝ }
+{
+    if !loose_begins(n, e) {
+        return false;
+    }
+    if !well_formed(n) {
+        return false;
+    }
+    !is_private(n)
+}
+
+// Does a listing under the expansion e show the name n of a region?
+fn shows(region: Region, n: &[u8], e: &[u8]) -> bool
+    ensures { λ r. ⌜ r ≡ shows-in (region-of region) (scope (now (e .entry))) (now (n .entry)) ⌝ }
+{
+    match region {
+        Region::Worktree => worktree_shows(n, e),
+        Region::Common => common_shows(n, e),
+        Region::Packed => starts_with(n, e),
+    }
+}
+
+// Is it an error entry?
+fn is_error(kind: EntryKind) -> bool
+    ensures { λ r. ⌜ r ≡ is-error kind ⌝ }
+{
+    match kind {
+        EntryKind::End => false,
+        EntryKind::Damaged => true,
+        EntryKind::Failed => true,
+        EntryKind::Loose => false,
+        EntryKind::Unread => false,
+        EntryKind::Record => false,
+        EntryKind::PeeledRecord => false,
+    }
+}
+
+pub enum Left {
+    Nothing,
+    Error,
+    Name,
+}
+
+// What waits in a region: block `at`, which is an error or bears a name, and the place behind it. Its name is not copied.
+pub struct Waiting {
+    pub left: Left,
+    pub at: usize,
+    pub next: usize,
+}
+
+fn is_left(w: Waiting) -> bool
+    ensures { λ r. ⌜ r ≡ is-left (w .left) ⌝ }
+{
+    let left = w.left;
+    match left {
+        Left::Nothing => false,
+        Left::Error => true,
+        Left::Name => true,
+    }
+}
+
+// What waits at block k: nothing, where it is passed over.
+fn look(s: &[u8], region: Region, e: &[u8], k: usize) -> Waiting
+    requires { ⌜ k < block-count (now s) ⌝ }
+    ensures { λ w. ⌜ waiting-of (now (e .entry)) (region-of region) (now (s .entry)) w ≡ first-seen (seen-in (region-of region) (now (e .entry)) (entry id-width (region-of region) (block-at (now (s .entry)) k))) (suc k) none-left ⌝ }
+{
+    let next = k + 1;
+    let kind = entry_kind(s, region, k);
+    if is_error(kind) {
+        return Waiting {
+            left: Left::Error,
+            at: k,
+            next,
+        };
+    }
+    if shows(region, block_name(s, k), e) {
+        return Waiting {
+            left: Left::Name,
+            at: k,
+            next,
+        };
+    }
+    Waiting {
+        left: Left::Nothing,
+        at: k,
+        next,
+    }
+}
+
+// What waits in a region from a position on, which may lie past its end.
+fn peek(s: &[u8], region: Region, e: &[u8], from: usize) -> Waiting
+    ensures { λ w. ⌜ waiting-of (now (e .entry)) (region-of region) (now (s .entry)) w ≡ peek (seen-in (region-of region) (now (e .entry))) (entries id-width (region-of region) (now (s .entry))) from ⌝ }
+{
+    let count = s.len() / BLOCK_SIZE;
+    let mut i = from;
+    while i < count {
+        let w = look(s, region, e, i);
+        if is_left(w) {
+            return w;
+        }
+        i += 1;
+    }
+    Waiting {
+        left: Left::Nothing,
+        at: from,
+        next: from,
+    }
+}
