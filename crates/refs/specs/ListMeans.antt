@@ -1,5 +1,6 @@
 -- What the listing's types mean, and what its parts promise.
-use Prim.Native.Nat.{ℕ}
+use mathlib.Core.Path.{_≡_}
+use Prim.Native.Nat.{ℕ, Ordering, Ordering·lt, Ordering·eq, Ordering·gt}
 use mathlib.Core.Bool.{Bool, true, false}
 use mathlib.Core.Option.{Option, none, some}
 use Rattle.names.specs.Bytes.{Bytes}
@@ -7,13 +8,13 @@ use Rattle.names.specs.Check.{Check, Checked, checked}
 use Rattle.names.specs.Means.{content, number}
 use Rattle.blocks.specs.Block.{Region}
 use Rattle.blocks.specs.Entry.{Entry, entries}
-use Rattle.blocks.specs.Means.{id-width, name-in, entry-in, if-there, snapshot-of}
+use Rattle.blocks.specs.Means.{id-width, name-in, entry-in, region-of}
 use Rattle.blocks.specs.Snapshot.{Snapshot, store}
 use Rattle.blocks.specs.declared.block.EntryKind.{EntryKind}
 use Rattle.blocks.specs.declared.block.EntryKind.the-variants.{End, Damaged, Failed, Loose, Unread, Record, PeeledRecord}
 use Rattle.refs.specs.Answer.{Reference, Answer, nothing, found, refused, strip-answer}
 use Rattle.refs.specs.View.{Seen, Scope, scope, see, worktree-shows, common-shows, packed-shows, view}
-use Rattle.refs.specs.Listing.{Waiting, none-left, error, named, Offer, Positions, Move, move}
+use Rattle.refs.specs.Listing.{Waiting, none-left, error, named, Offer, least, past, Positions, Move, by-name, choose, move}
 use Rattle.refs.specs.Run.{State, Step}
 use Rattle.refs.specs.Means.{reason-number, reference-of, says-at}
 use Rattle.refs.specs.declared.overlay_iter.Listing as listing
@@ -23,14 +24,14 @@ use Rattle.refs.specs.declared.overlay_iter.Opened.{Opened}
 use Rattle.refs.specs.declared.overlay_iter.Left.{Left}
 use Rattle.refs.specs.declared.overlay_iter.Left.the-variants as left
 use Rattle.refs.specs.declared.overlay_iter.Waiting as waiting
+use Rattle.refs.specs.declared.overlay_iter.Offer as offer
+use Rattle.refs.specs.declared.overlay_iter.Positions as positions
+use Rattle.refs.specs.declared.overlay_iter.Move as move
 
 -- ---- the state and the opening
 
-abbrev pub positions-of : listing.Listing → Positions
-positions-of l = record { worktree = l .worktree; common = l .common; packed = l .packed }
-
 abbrev pub state-of : listing.Listing → State
-state-of l = record { at = positions-of l; ended = l .ended; expansion = content (l .expansion) }
+state-of l = record { at = record { worktree = l .worktree; common = l .common; packed = l .packed }; ended = l .ended; expansion = content (l .expansion) }
 
 -- 1 "size not a multiple of 512", 2 "over 4,096 blocks", 3 to 5 of the namespace
 abbrev pub opening-check : Opening → Check
@@ -83,3 +84,75 @@ waiting-with left.Name n a next = named n a next
 -- name and answer are those of the block
 abbrev pub waiting-of : Bytes → Region → Bytes → waiting.Waiting → Waiting
 waiting-of e r s w = waiting-with (w .left) (name-in s (w .at)) (answer-at e r s (w .at)) (w .next)
+
+-- ---- the choice
+
+abbrev pub is-fault : Left → Bool
+is-fault left.Nothing = false
+is-fault left.Error = true
+is-fault left.Name = false
+
+abbrev pub is-name : Left → Bool
+is-name left.Nothing = false
+is-name left.Error = false
+is-name left.Name = true
+
+-- a region, of three
+abbrev pub part-of : Bytes → Bytes → Bytes → Region → Bytes
+part-of w c p Region.worktree = w
+part-of w c p Region.common = c
+part-of w c p Region.packed = p
+
+abbrev pub not-above : Ordering → Bool
+not-above Ordering·lt = true
+not-above Ordering·eq = true
+not-above Ordering·gt = false
+
+-- the block of the regions w, c, p that is offered
+abbrev pub offer-of : Bytes → Bytes → Bytes → Bytes → offer.Offer → Option Offer
+offer-of e w c p offer.the-variants.Nothing = none
+offer-of e w c p (offer.the-variants.From r k) =
+    some (record { name = name-in (part-of w c p (region-of r)) k; answer = answer-at e (region-of r) (part-of w c p (region-of r)) k })
+
+abbrev pub offered : Option Offer → Answer
+offered none = nothing
+offered (some o) = o .answer
+
+abbrev pub positions-of : positions.Positions → Positions
+positions-of at = record { worktree = at .worktree; common = at .common; packed = at .packed }
+
+abbrev pub move-of : Bytes → Bytes → Bytes → Bytes → move.Move → Move
+move-of e w c p m = record { answer = offered (offer-of e w c p (m .given)); next = positions-of (m .next) }
+
+-- what is true of the parts of a choice, whatever is stripped
+
+-- o is the lesser of what waits in the region r and of q
+abbrev pub LeastOf : Bytes → Bytes → Bytes → Region → waiting.Waiting → offer.Offer → offer.Offer → Type 0
+LeastOf w c p r x q o = (e : Bytes) → offer-of e w c p o ≡ least (waiting-of e r (part-of w c p r) x) (offer-of e w c p q)
+
+-- j is the position of the region s after the name n was handed out, i before
+abbrev pub PastOf : Bytes → Bytes → waiting.Waiting → ℕ → ℕ → Type 0
+PastOf n s x i j = (e : Bytes) (r : Region) → j ≡ past n (waiting-of e r s x) i
+
+-- m hands out the least name
+abbrev pub NameMove : Bytes → Bytes → Bytes → waiting.Waiting → waiting.Waiting → waiting.Waiting → positions.Positions → move.Move → Type 0
+NameMove w c p x y z at m =
+    (e : Bytes)
+    → move-of e w c p m
+    ≡ by-name (least (waiting-of e Region.worktree w x) (least (waiting-of e Region.common c y) (least (waiting-of e Region.packed p z) none))) (waiting-of e Region.worktree w x) (waiting-of e Region.common c y) (waiting-of e Region.packed p z) (positions-of at)
+
+-- the positions, where that of the region r is i
+abbrev pub moved-in : Region → ℕ → positions.Positions → Positions
+moved-in Region.worktree i at = record { worktree = i; common = at .common; packed = at .packed }
+moved-in Region.common i at = record { worktree = at .worktree; common = i; packed = at .packed }
+moved-in Region.packed i at = record { worktree = at .worktree; common = at .common; packed = i }
+
+-- m hands out what waits in the region r
+abbrev pub ErrorMove : Region → waiting.Waiting → positions.Positions → move.Move → Type 0
+ErrorMove r x at m =
+    (e w c p : Bytes) → move-of e w c p m ≡ record { answer = answer-at e r (part-of w c p r) (x .at); next = moved-in r (x .next) at }
+
+-- m is the choice
+abbrev pub ChosenMove : Bytes → Bytes → Bytes → waiting.Waiting → waiting.Waiting → waiting.Waiting → positions.Positions → move.Move → Type 0
+ChosenMove w c p x y z at m =
+    (e : Bytes) → move-of e w c p m ≡ choose (waiting-of e Region.worktree w x) (waiting-of e Region.common c y) (waiting-of e Region.packed p z) (positions-of at)

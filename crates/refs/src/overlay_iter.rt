@@ -5,7 +5,7 @@ ghost use Prim.Native.Nat.{suc, _<_};
 ghost use Rattle.names.specs.Bytes.{Bytes, starts-with};
 ghost use Rattle.names.specs.Check.{checked};
 ghost use Rattle.names.specs.Namespace.{expansion, names-check};
-ghost use Rattle.names.specs.Means.{content};
+ghost use Rattle.names.specs.Means.{content, ordering};
 ghost use Rattle.blocks.specs.Entry.{entry, entries};
 ghost use Rattle.blocks.specs.Block.{Region};
 ghost use Rattle.blocks.specs.Snapshot.{or-empty};
@@ -15,7 +15,7 @@ ghost use Rattle.refs.specs.View.{scope, worktree-shows, common-shows};
 ghost use Rattle.refs.specs.Listing.{none-left, first-seen, peek, least, past, choose};
 ghost use Rattle.refs.specs.Run.{start, open-listing, is-nothing, unless-ended, moved, step};
 ghost use Rattle.refs.specs.Means.{answered, answer-with};
-ghost use Rattle.refs.specs.ListMeans.{state-of, opened, shows-in, seen-in, is-error, is-left, waiting-of};
+ghost use Rattle.refs.specs.ListMeans.{state-of, opened, shows-in, seen-in, is-error, is-left, waiting-of, is-fault, is-name, part-of, not-above, LeastOf, PastOf, NameMove, ErrorMove, ChosenMove, answer-at, offered, offer-of};
 use crate::raw::Answered;
 use crate::raw::Outcome;
 use crate::raw::Reason;
@@ -34,6 +34,7 @@ use blocks::fitness::Sizes;
 use blocks::fitness::size_check;
 use names::bytes::Order;
 use names::bytes::compare;
+use names::bytes::equal;
 use names::bytes::starts_with;
 use names::fullname::is_private;
 use names::name::Name;
@@ -263,4 +264,191 @@ fn peek(s: &[u8], region: Region, e: &[u8], from: usize) -> Waiting
         at: from,
         next: from,
     }
+}
+
+fn is_fault(left: Left) -> bool
+    ensures { λ r. ⌜ r ≡ is-fault left ⌝ }
+{
+    match left {
+        Left::Nothing => false,
+        Left::Error => true,
+        Left::Name => false,
+    }
+}
+
+fn is_name(left: Left) -> bool
+    ensures { λ r. ⌜ r ≡ is-name left ⌝ }
+{
+    match left {
+        Left::Nothing => false,
+        Left::Error => false,
+        Left::Name => true,
+    }
+}
+
+// The block that is handed out, if one is.
+pub enum Offer {
+    Nothing,
+    From { region: Region, at: usize },
+}
+
+pub struct Positions {
+    pub worktree: usize,
+    pub common: usize,
+    pub packed: usize,
+}
+
+// What is handed out, and the positions after it.
+pub struct Move {
+    pub given: Offer,
+    pub next: Positions,
+}
+
+fn part<'a>(worktree: &'a [u8], common: &'a [u8], packed: &'a [u8], region: Region) -> &'a [u8]
+    ensures { λ r. ⌜ now r ≡ part-of (now (worktree .entry)) (now (common .entry)) (now (packed .entry)) (region-of region) ⌝ }
+{
+    match region {
+        Region::Worktree => worktree,
+        Region::Common => common,
+        Region::Packed => packed,
+    }
+}
+
+// Is the first of two names below the second, or the same?
+fn is_not_above(o: Order) -> bool
+    ensures { λ r. ⌜ r ≡ not-above (ordering o) ⌝ }
+{
+    match o {
+        Order::Less => true,
+        Order::Equal => true,
+        Order::Greater => false,
+    }
+}
+
+// The name that waits in a region, unless the one offered already is below it.
+fn least<'a>(
+    worktree: &'a [u8],
+    common: &'a [u8],
+    packed: &'a [u8],
+    region: Region,
+    w: Waiting,
+    offered: Offer,
+) -> Offer
+    ensures { λ o. ⌜ LeastOf (now (worktree .entry)) (now (common .entry)) (now (packed .entry)) (region-of region) w offered o ⌝ }
+{
+    let left = w.left;
+    let at = w.at;
+    if !is_name(left) {
+        return offered;
+    }
+    match offered {
+        Offer::Nothing => Offer::From { region, at },
+        Offer::From {
+            region: other,
+            at: k,
+        } => {
+            let n = block_name(part(worktree, common, packed, region), at);
+            let m = block_name(part(worktree, common, packed, other), k);
+            if is_not_above(compare(n, m)) {
+                return Offer::From { region, at };
+            }
+            offered
+        }
+    }
+}
+
+// The position of a region after the name n was handed out: past its block, if that bears the name.
+fn past(n: &[u8], s: &[u8], w: Waiting, i: usize) -> usize
+    ensures { λ j. ⌜ PastOf (now (n .entry)) (now (s .entry)) w i j ⌝ }
+{
+    let left = w.left;
+    let at = w.at;
+    if !is_name(left) {
+        return i;
+    }
+    if equal(n, block_name(s, at)) {
+        return w.next;
+    }
+    i
+}
+
+// The least name, which is consumed in every region where it waits.
+fn by_name<'a>(
+    worktree: &'a [u8],
+    common: &'a [u8],
+    packed: &'a [u8],
+    w: Waiting,
+    c: Waiting,
+    p: Waiting,
+    at: Positions,
+) -> Move
+    ensures { λ m. ⌜ NameMove (now (worktree .entry)) (now (common .entry)) (now (packed .entry)) w c p at m ⌝ }
+{
+    let third = least(worktree, common, packed, Region::Packed, p, Offer::Nothing);
+    let second = least(worktree, common, packed, Region::Common, c, third);
+    let given = least(worktree, common, packed, Region::Worktree, w, second);
+    match given {
+        Offer::Nothing => Move { given, next: at },
+        Offer::From { region, at: k } => {
+            let n = block_name(part(worktree, common, packed, region), k);
+            let next = Positions {
+                worktree: past(n, worktree, w, at.worktree),
+                common: past(n, common, c, at.common),
+                packed: past(n, packed, p, at.packed),
+            };
+            Move { given, next }
+        }
+    }
+}
+
+// The error that waits in a region, which alone is consumed.
+fn error_in(region: Region, w: Waiting, at: Positions) -> Move
+    ensures { λ m. ⌜ ErrorMove (region-of region) w at m ⌝ }
+{
+    let given = Offer::From { region, at: w.at };
+    let next = match region {
+        Region::Worktree => Positions {
+            worktree: w.next,
+            common: at.common,
+            packed: at.packed,
+        },
+        Region::Common => Positions {
+            worktree: at.worktree,
+            common: w.next,
+            packed: at.packed,
+        },
+        Region::Packed => Positions {
+            worktree: at.worktree,
+            common: at.common,
+            packed: w.next,
+        },
+    };
+    Move { given, next }
+}
+
+// Errors come before names: packed, then common, then worktree.
+fn choose<'a>(
+    worktree: &'a [u8],
+    common: &'a [u8],
+    packed: &'a [u8],
+    w: Waiting,
+    c: Waiting,
+    p: Waiting,
+    at: Positions,
+) -> Move
+    ensures { λ m. ⌜ ChosenMove (now (worktree .entry)) (now (common .entry)) (now (packed .entry)) w c p at m ⌝ }
+{
+    let packed_left = p.left;
+    if is_fault(packed_left) {
+        return error_in(Region::Packed, p, at);
+    }
+    let common_left = c.left;
+    if is_fault(common_left) {
+        return error_in(Region::Common, c, at);
+    }
+    let worktree_left = w.left;
+    if is_fault(worktree_left) {
+        return error_in(Region::Worktree, w, at);
+    }
+    by_name(worktree, common, packed, w, c, p, at)
 }
