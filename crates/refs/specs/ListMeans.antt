@@ -9,14 +9,13 @@ use Rattle.names.specs.Means.{content, number}
 use Rattle.blocks.specs.Block.{Region}
 use Rattle.blocks.specs.Entry.{Entry, entries}
 use Rattle.blocks.specs.Means.{id-width, name-in, entry-in, region-of}
-use Rattle.blocks.specs.Snapshot.{Snapshot, store}
 use Rattle.blocks.specs.declared.block.EntryKind.{EntryKind}
 use Rattle.blocks.specs.declared.block.EntryKind.the-variants.{End, Damaged, Failed, Loose, Unread, Record, PeeledRecord}
 use Rattle.refs.specs.Answer.{Reference, Answer, nothing, found, refused, strip-answer}
-use Rattle.refs.specs.View.{Seen, Scope, scope, see, worktree-shows, common-shows, packed-shows, view}
-use Rattle.refs.specs.Listing.{Waiting, none-left, error, named, Offer, least, past, Positions, Move, by-name, choose, move}
-use Rattle.refs.specs.Run.{State, Step}
-use Rattle.refs.specs.Means.{reason-number, reference-of, says-at}
+use Rattle.refs.specs.View.{Seen, Scope, scope, see, worktree-shows, common-shows, packed-shows}
+use Rattle.refs.specs.Listing.{Waiting, none-left, error, named, Offer, least, past, Positions, Move, by-name, choose, peek}
+use Rattle.refs.specs.Run.{State, Step, is-nothing}
+use Rattle.refs.specs.Means.{reason-number, reference-of, answer-with, says-at}
 use Rattle.refs.specs.declared.overlay_iter.Listing as listing
 use Rattle.refs.specs.declared.overlay_iter.Opening.{Opening}
 use Rattle.refs.specs.declared.overlay_iter.Opening.the-variants as opening
@@ -27,6 +26,10 @@ use Rattle.refs.specs.declared.overlay_iter.Waiting as waiting
 use Rattle.refs.specs.declared.overlay_iter.Offer as offer
 use Rattle.refs.specs.declared.overlay_iter.Positions as positions
 use Rattle.refs.specs.declared.overlay_iter.Move as move
+use Rattle.refs.specs.declared.overlay_iter.Listed.{Listed}
+use Rattle.refs.specs.declared.overlay_iter.Listed.the-variants as listed
+use Rattle.refs.specs.declared.overlay_iter.Stepped.{Stepped}
+use Rattle.refs.specs.declared.raw.Outcome.{Outcome}
 
 -- ---- the state and the opening
 
@@ -156,3 +159,35 @@ ErrorMove r x at m =
 abbrev pub ChosenMove : Bytes → Bytes → Bytes → waiting.Waiting → waiting.Waiting → waiting.Waiting → positions.Positions → move.Move → Type 0
 ChosenMove w c p x y z at m =
     (e : Bytes) → move-of e w c p m ≡ choose (waiting-of e Region.worktree w x) (waiting-of e Region.common c y) (waiting-of e Region.packed p z) (positions-of at)
+
+-- ---- the step
+
+-- 1, 2, an entry, 6 to 12, ended
+abbrev pub listed-with : Listed → Reference → Answer
+listed-with listed.NotWhole r = refused 1
+listed-with listed.TooMany r = refused 2
+listed-with listed.Entry r = found r
+listed-with (listed.Refused why) r = refused (reason-number why)
+listed-with listed.Ended r = nothing
+
+abbrev pub step-of : Stepped → Step
+step-of s = record { answer = listed-with (s .answer) (reference-of (s .reference)); next = state-of (s .next) }
+
+-- l and b say what the outcome does, whatever the reference
+abbrev pub Lists : Outcome → Listed → Type 0
+Lists o l = (r : Reference) → listed-with l r ≡ answer-with o r
+
+abbrev pub Ends : Outcome → Bool → Type 0
+Ends o b = (r : Reference) → b ≡ is-nothing (answer-with o r)
+
+-- the step to the positions p under the expansion e
+abbrev pub moved-on : Bytes → Positions → Answer → Step
+moved-on e p a = record { answer = a; next = record { at = p; ended = is-nothing a; expansion = e } }
+
+-- the move of a state in the regions w, c, p
+abbrev pub move-in : Bytes → Bytes → Bytes → State → Move
+move-in w c p st =
+    choose (peek (seen-in Region.worktree (st .expansion)) (entries id-width Region.worktree w) (st .at .worktree))
+    (peek (seen-in Region.common (st .expansion)) (entries id-width Region.common c) (st .at .common))
+    (peek (seen-in Region.packed (st .expansion)) (entries id-width Region.packed p) (st .at .packed))
+    (st .at)

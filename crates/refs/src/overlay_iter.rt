@@ -2,20 +2,18 @@
 ghost use mathlib.Core.Path.{_≡_};
 ghost use mathlib.Core.Option.{none};
 ghost use Prim.Native.Nat.{suc, _<_};
-ghost use Rattle.names.specs.Bytes.{Bytes, starts-with};
+ghost use Rattle.names.specs.Bytes.{starts-with};
 ghost use Rattle.names.specs.Check.{checked};
 ghost use Rattle.names.specs.Namespace.{expansion, names-check};
 ghost use Rattle.names.specs.Means.{content, ordering};
 ghost use Rattle.blocks.specs.Entry.{entry, entries};
-ghost use Rattle.blocks.specs.Block.{Region};
 ghost use Rattle.blocks.specs.Snapshot.{or-empty};
-ghost use Rattle.blocks.specs.Means.{id-width, region-of, block-count, block-at, name-in, if-there, snapshot-of};
-ghost use Rattle.refs.specs.Answer.{Reference, strip-answer};
+ghost use Rattle.blocks.specs.Means.{id-width, region-of, block-count, block-at, if-there, snapshot-of};
 ghost use Rattle.refs.specs.View.{scope, worktree-shows, common-shows};
-ghost use Rattle.refs.specs.Listing.{none-left, first-seen, peek, least, past, choose};
-ghost use Rattle.refs.specs.Run.{start, open-listing, is-nothing, unless-ended, moved, step};
-ghost use Rattle.refs.specs.Means.{answered, answer-with};
-ghost use Rattle.refs.specs.ListMeans.{state-of, opened, shows-in, seen-in, is-error, is-left, waiting-of, is-fault, is-name, part-of, not-above, LeastOf, PastOf, NameMove, ErrorMove, ChosenMove, answer-at, offered, offer-of};
+ghost use Rattle.refs.specs.Listing.{none-left, first-seen, peek};
+ghost use Rattle.refs.specs.Run.{start, open-listing, moved, step};
+ghost use Rattle.refs.specs.Means.{answered, reference-of};
+ghost use Rattle.refs.specs.ListMeans.{state-of, opened, shows-in, seen-in, is-error, is-left, waiting-of, is-fault, is-name, part-of, not-above, LeastOf, PastOf, NameMove, ErrorMove, ChosenMove, answer-at, offered, offer-of, positions-of, listed-with, Lists, Ends, moved-on, step-of, move-in};
 use crate::raw::Answered;
 use crate::raw::Outcome;
 use crate::raw::Reason;
@@ -451,4 +449,153 @@ fn choose<'a>(
         return error_in(Region::Worktree, w, at);
     }
     by_name(worktree, common, packed, w, c, p, at)
+}
+
+// The answer of block k of a region under its own name, stripped.
+fn answer_at(s: &[u8], region: Region, k: usize, e: &[u8]) -> Answered
+    ensures { λ a. ⌜ answered a ≡ answer-at (now (e .entry)) (region-of region) (now (s .entry)) k ⌝ }
+{
+    let kind = entry_kind(s, region, k);
+    let own = name_at(s, k);
+    strip_answer(entry_answer(kind, own, own, block_content(s, k)), e)
+}
+
+fn hand_out<'a>(
+    worktree: &'a [u8],
+    common: &'a [u8],
+    packed: &'a [u8],
+    given: Offer,
+    e: &[u8],
+) -> Answered
+    ensures { λ a. ⌜ answered a ≡ offered (offer-of (now (e .entry)) (now (worktree .entry)) (now (common .entry)) (now (packed .entry)) given) ⌝ }
+{
+    match given {
+        Offer::Nothing => not_found(),
+        Offer::From { region, at } => {
+            answer_at(part(worktree, common, packed, region), region, at, e)
+        }
+    }
+}
+
+// What a step answers: refused 1 or 2, or an entry, refused 6 to 12, or the end.
+pub enum Listed {
+    NotWhole,
+    TooMany,
+    Entry,
+    Refused(Reason),
+    Ended,
+}
+
+// A step; the reference counts where the answer is an entry.
+pub struct Stepped {
+    pub answer: Listed,
+    pub reference: Reference,
+    pub next: Listing,
+}
+
+fn listed_of(outcome: Outcome) -> Listed
+    ensures { λ l. ⌜ Lists outcome l ⌝ }
+{
+    match outcome {
+        Outcome::Nothing => Listed::Ended,
+        Outcome::Found => Listed::Entry,
+        Outcome::Refused(why) => Listed::Refused(why),
+    }
+}
+
+fn is_end(outcome: Outcome) -> bool
+    ensures { λ b. ⌜ Ends outcome b ⌝ }
+{
+    match outcome {
+        Outcome::Nothing => true,
+        Outcome::Found => false,
+        Outcome::Refused(_) => false,
+    }
+}
+
+fn moved(expansion: Name, at: Positions, a: Answered) -> Stepped
+    ensures { λ s. ⌜ step-of s ≡ moved-on (content expansion) (positions-of at) (answered a) ⌝ }
+{
+    let outcome = a.outcome;
+    let reference = a.reference;
+    let answer = listed_of(outcome);
+    let next = Listing {
+        worktree: at.worktree,
+        common: at.common,
+        packed: at.packed,
+        ended: is_end(outcome),
+        expansion,
+    };
+    Stepped {
+        answer,
+        reference,
+        next,
+    }
+}
+
+// A step that leaves the state as it was.
+fn stays(state: Listing, answer: Listed) -> Stepped
+    ensures { λ s. ⌜ step-of s ≡ record { answer = listed-with answer (reference-of (s .reference)); next = state-of state } ⌝ }
+{
+    let a = not_found();
+    let reference = a.reference;
+    Stepped {
+        answer,
+        reference,
+        next: state,
+    }
+}
+
+// A step in regions of right sizes.
+fn advance<'a>(state: Listing, worktree: &'a [u8], common: &'a [u8], packed: &'a [u8]) -> Stepped
+    ensures { λ s. ⌜ step-of s ≡ moved (state-of state) (move-in (now (worktree .entry)) (now (common .entry)) (now (packed .entry)) (state-of state)) ⌝ }
+{
+    let expansion = state.expansion;
+    let b = expansion.bytes;
+    let len = expansion.len;
+    let e = lend(&b, len);
+    let w = peek(worktree, Region::Worktree, e, state.worktree);
+    let c = peek(common, Region::Common, e, state.common);
+    let p = peek(packed, Region::Packed, e, state.packed);
+    let at = Positions {
+        worktree: state.worktree,
+        common: state.common,
+        packed: state.packed,
+    };
+    let m = choose(worktree, common, packed, w, c, p, at);
+    let given = m.given;
+    let next = m.next;
+    let a = hand_out(worktree, common, packed, given, e);
+    moved(expansion, next, a)
+}
+
+// An absent region lists as empty, whatever was lent for it.
+fn or_empty(common: &[u8], has_common: bool) -> &[u8]
+    ensures { λ r. ⌜ now r ≡ or-empty (if-there «has_common» (now (common .entry))) ⌝ }
+{
+    if has_common { common } else { &common[0..0] }
+}
+
+// One step (LooseThenPacked::next): it looks no further in a region than what waits there.
+pub fn step<'a>(
+    state: Listing,
+    worktree: &'a [u8],
+    common: &'a [u8],
+    has_common: bool,
+    packed: &'a [u8],
+) -> Stepped
+    ensures { λ s. ⌜ step-of s ≡ step id-width (snapshot-of (now (worktree .entry)) (if-there «has_common» (now (common .entry))) (now (packed .entry))) (state-of state) ⌝ }
+{
+    let sizes = size_check(worktree, common, has_common, packed);
+    match sizes {
+        Sizes::Right => {
+            let ended = state.ended;
+            if ended {
+                return stays(state, Listed::Ended);
+            }
+            advance(state, worktree, or_empty(common, has_common), packed)
+        }
+        Sizes::NotWhole => stays(state, Listed::NotWhole),
+        Sizes::TooMany => stays(state, Listed::TooMany),
+    }
 }
