@@ -8,7 +8,7 @@ use Rattle.names.specs.Check.{Check, Checked, checked}
 use Rattle.names.specs.Means.{content, number}
 use Rattle.blocks.specs.Block.{Region}
 use Rattle.blocks.specs.Entry.{Entry, entries}
-use Rattle.blocks.specs.Means.{id-width, name-in, entry-in, region-of}
+use Rattle.blocks.specs.Means.{id-width, name-in, content-in, as-entry, entry-in, region-of}
 use Rattle.blocks.specs.declared.block.EntryKind.{EntryKind}
 use Rattle.blocks.specs.declared.block.EntryKind.the-variants.{End, Damaged, Failed, Loose, Unread, Record, PeeledRecord}
 use Rattle.refs.specs.Answer.{Reference, Answer, nothing, found, refused, strip-answer}
@@ -191,3 +191,9 @@ move-in w c p st =
     (peek (seen-in Region.common (st .expansion)) (entries id-width Region.common c) (st .at .common))
     (peek (seen-in Region.packed (st .expansion)) (entries id-width Region.packed p) (st .at .packed))
     (st .at)
+
+-- ---- the reader of the packed region
+
+-- the kind is that of block k of the packed region s
+abbrev pub RecordKind : Bytes → ℕ → EntryKind → Type 0
+RecordKind s k kind = as-entry id-width kind (name-in s k) (content-in s k) ≡ entry-in id-width Region.packed s k

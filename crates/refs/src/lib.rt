@@ -1,4 +1,5 @@
 // Search, following and listing. The definitions are in specs/, demand 3 in proofs/Claims.antt.
 pub mod find;
 pub mod overlay_iter;
+pub mod packed;
 pub mod raw;
