@@ -192,17 +192,17 @@ fn is_error(kind: EntryKind) -> bool
     }
 }
 
-pub enum Left {
+enum Left {
     Nothing,
     Error,
     Name,
 }
 
 // What waits in a region: block `at`, which is an error or bears a name, and the place behind it. Its name is not copied.
-pub struct Waiting {
-    pub left: Left,
-    pub at: usize,
-    pub next: usize,
+struct Waiting {
+    left: Left,
+    at: usize,
+    next: usize,
 }
 
 fn is_left(w: Waiting) -> bool
@@ -285,21 +285,21 @@ fn is_name(left: Left) -> bool
 }
 
 // The block that is handed out, if one is.
-pub enum Offer {
+enum Offer {
     Nothing,
     From { region: Region, at: usize },
 }
 
-pub struct Positions {
-    pub worktree: usize,
-    pub common: usize,
-    pub packed: usize,
+struct Positions {
+    worktree: usize,
+    common: usize,
+    packed: usize,
 }
 
 // What is handed out, and the positions after it.
-pub struct Move {
-    pub given: Offer,
-    pub next: Positions,
+struct Move {
+    given: Offer,
+    next: Positions,
 }
 
 fn part<'a>(worktree: &'a [u8], common: &'a [u8], packed: &'a [u8], region: Region) -> &'a [u8]

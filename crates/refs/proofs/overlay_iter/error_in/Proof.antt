@@ -1,31 +1,22 @@
-use native.Mathlib.Omega.{arith}
 use borrow.Author.Needs.{needs}
 use Rattle.refs.proofs.overlay_iter.error_in.Statement.{statement}
 use Rattle.refs.proofs.overlay_iter.error_in.Tie as tie
-use Rattle.refs.proofs.overlay_iter.error_in.Reads as reads
-use Rattle.refs.proofs.overlay_iter.error_in.Lts as lts
 
--- src/overlay_iter.rt:410:29
 enum-told : tie.Need-enum-told
 enum-told c = search needs
 
--- src/overlay_iter.rt:415:27
 enum-told-2 : tie.Need-enum-told-2
 enum-told-2 c = search needs
 
--- src/overlay_iter.rt:420:27
 enum-told-3 : tie.Need-enum-told-3
 enum-told-3 c = search needs
 
--- src/overlay_iter.rt:405:1
 returns : tie.Need-returns
 returns c e w x p = rw (c .enum-told .given .1)
 
--- src/overlay_iter.rt:405:1
 returns-2 : tie.Need-returns-2
 returns-2 c e w x p = rw (c .enum-told2 .given .1)
 
--- src/overlay_iter.rt:405:1
 returns-3 : tie.Need-returns-3
 returns-3 c e w x p = rw (c .enum-told3 .given .1)
 

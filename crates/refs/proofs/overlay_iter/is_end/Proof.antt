@@ -1,31 +1,22 @@
-use native.Mathlib.Omega.{arith}
 use borrow.Author.Needs.{needs}
 use Rattle.refs.proofs.overlay_iter.is_end.Statement.{statement}
 use Rattle.refs.proofs.overlay_iter.is_end.Tie as tie
-use Rattle.refs.proofs.overlay_iter.is_end.Reads as reads
-use Rattle.refs.proofs.overlay_iter.is_end.Lts as lts
 
--- src/overlay_iter.rt:510:29
 enum-told : tie.Need-enum-told
 enum-told c = search needs
 
--- src/overlay_iter.rt:511:27
 enum-told-2 : tie.Need-enum-told-2
 enum-told-2 c = search needs
 
--- src/overlay_iter.rt:512:32
 enum-told-3 : tie.Need-enum-told-3
 enum-told-3 c = search needs
 
--- src/overlay_iter.rt:506:1
 returns : tie.Need-returns
 returns c r = rw (c .enum-told .given .1)
 
--- src/overlay_iter.rt:506:1
 returns-2 : tie.Need-returns-2
 returns-2 c r = rw (c .enum-told2 .given .1)
 
--- src/overlay_iter.rt:506:1
 returns-3 : tie.Need-returns-3
 returns-3 c r = rw (c .enum-told3 .given .1)
 

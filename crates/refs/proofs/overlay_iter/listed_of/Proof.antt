@@ -1,31 +1,22 @@
-use native.Mathlib.Omega.{arith}
 use borrow.Author.Needs.{needs}
 use Rattle.refs.proofs.overlay_iter.listed_of.Statement.{statement}
 use Rattle.refs.proofs.overlay_iter.listed_of.Tie as tie
-use Rattle.refs.proofs.overlay_iter.listed_of.Reads as reads
-use Rattle.refs.proofs.overlay_iter.listed_of.Lts as lts
 
--- src/overlay_iter.rt:500:29
 enum-told : tie.Need-enum-told
 enum-told c = search needs
 
--- src/overlay_iter.rt:501:27
 enum-told-2 : tie.Need-enum-told-2
 enum-told-2 c = search needs
 
--- src/overlay_iter.rt:502:26
 enum-known-outcome : tie.Need-enum-known-outcome
 enum-known-outcome c = search needs
 
--- src/overlay_iter.rt:496:1
 returns : tie.Need-returns
 returns c r = rw (c .enum-told .given .1)
 
--- src/overlay_iter.rt:496:1
 returns-2 : tie.Need-returns-2
 returns-2 c r = rw (c .enum-told2 .given .1)
 
--- src/overlay_iter.rt:496:1
 returns-3 : tie.Need-returns-3
 returns-3 c r = rw (c .before .outcome .given .1)
 

@@ -1,53 +1,37 @@
 use Rattle.refs.specs.Run.{open-listing}
-use native.Mathlib.Omega.{arith}
 use borrow.Author.Needs.{needs}
 use Rattle.refs.proofs.overlay_iter.open.Statement.{statement}
 use Rattle.refs.proofs.overlay_iter.open.Tie as tie
-use Rattle.refs.proofs.overlay_iter.open.Reads as reads
-use Rattle.refs.proofs.overlay_iter.open.Lts as lts
-use Rattle.blocks.proofs.fitness.size_check.Reads as size-check-reads
-use Rattle.refs.proofs.overlay_iter.not_opened.Reads as not-opened-reads
-use Rattle.refs.proofs.overlay_iter.open_named.Reads as open-named-reads
 
--- src/overlay_iter.rt:130:9
 size-check-requires : tie.Need-size-check-requires
 size-check-requires c κs = search needs
 
--- src/overlay_iter.rt:132:25
 enum-told : tie.Need-enum-told
 enum-told c = search needs
 
--- src/overlay_iter.rt:132:25
 open-named-requires : tie.Need-open-named-requires
 open-named-requires c κs = search needs
 
--- src/overlay_iter.rt:133:39
 enum-told-2 : tie.Need-enum-told-2
 enum-told-2 c = search needs
 
--- src/overlay_iter.rt:133:28
 not-opened-requires : tie.Need-not-opened-requires
 not-opened-requires c κs = search needs
 
--- src/overlay_iter.rt:134:38
 enum-told-3 : tie.Need-enum-told-3
 enum-told-3 c = search needs
 
--- src/overlay_iter.rt:134:27
 not-opened-requires-2 : tie.Need-not-opened-requires-2
 not-opened-requires-2 c κs = search needs
 
--- src/overlay_iter.rt:120:1
 returns : tie.Need-returns
 unfolding open-listing
 returns c = rw (← c .before .before .before .size-check .ensures, c .before .enum-told .given .1) (c .open-named .ensures)
 
--- src/overlay_iter.rt:120:1
 returns-2 : tie.Need-returns-2
 unfolding open-listing
 returns-2 c = rw (c .not-opened .ensures, ← c .before .before .before .size-check .ensures, c .before .enum-told2 .given .1)
 
--- src/overlay_iter.rt:120:1
 returns-3 : tie.Need-returns-3
 unfolding open-listing
 returns-3 c = rw (c .not-opened2 .ensures, ← c .before .before .before .size-check .ensures, c .before .enum-told3 .given .1)
