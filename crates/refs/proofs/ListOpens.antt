@@ -1,15 +1,15 @@
 -- The opening: a namespace that is given or not, and its check.
-use mathlib.Core.Path.{_≡_, refl, ap, _∙_}
+use mathlib.Core.Path.{_≡_, refl}
 use mathlib.Core.Bool.{Bool, true, false, not, true≢false, false≢true}
 use mathlib.Core.List.{[]}
 use mathlib.Core.Option.{none, some}
 use Prim.Native.Nat.{ℕ}
 use native.Mathlib.Omega.{arith}
 use Rattle.names.specs.Bytes.{Bytes}
-use Rattle.names.specs.Check.{Check, Checked, gives, refuses, checked}
+use Rattle.names.specs.Check.{Check, gives, refuses, checked}
 use Rattle.names.specs.Namespace.{expand, expansion, names-check, expanded}
 use Rattle.blocks.specs.Means.{if-there}
-use Rattle.refs.specs.Run.{State, start}
+use Rattle.refs.specs.Run.{start}
 
 pub no-namespace : (has : Bool) (s : Bytes) → not has ≡ true → gives (start []) ≡ checked (names-check none (if-there has s)) (start (expansion (if-there has s)))
 unfolding names-check

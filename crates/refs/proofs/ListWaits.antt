@@ -1,7 +1,7 @@
 -- What waits in a region: at one block, and from one block to the next.
 use mathlib.Core.Path.{_≡_, refl, sym, ap, _∙_}
 use mathlib.Core.Bool.{Bool, true, false, true≢false, false≢true}
-use mathlib.Core.Option.{Option, none, some}
+use mathlib.Core.Option.{none, some}
 use Prim.Native.Nat.{ℕ, suc, _+_, _<_, _≤_}
 use native.Mathlib.Numerals.{add-one}
 use native.Mathlib.Omega.{arith}
@@ -58,21 +58,22 @@ module _ (e : Bytes) (shows : Bytes → Bool) (n c : Bytes) (next : ℕ) (rest :
 
 -- ---- block k of a region
 
-module _ (r : Region) (s e : Bytes) (k : ℕ) (kind : EntryKind) (within : k < block-count s) (h : as-entry id-width kind (name-in s k) (content-in s k) ≡ entry-in id-width r s k) where
-  pub look-error : is-error kind ≡ true → error (answer-at e r s k) (suc k) ≡ first-seen (seen-in r e (entry id-width r (block-at s k))) (suc k) none-left
+module _ (r : Region) (s e : Bytes) (k : ℕ) (kind : EntryKind) (within : k < block-count s) (h : as-entry id-width kind (name-in s k) (content-in s k) ≡ entry-in id-width r s k) (b : Bool) (is : b ≡ is-error kind) where
+  pub look-error : b ≡ true → error (answer-at e r s k) (k + 1) ≡ first-seen (seen-in r e (entry id-width r (block-at s k))) (suc k) none-left
   look-error z =
-      rw (stripped-is e, entry-there id-width r s k within)
-      (seen-fault e (shows-in r (scope e)) (name-in s k) (content-in s k) (suc k) none-left kind (entry id-width r (block-at s k)) (h ∙ entry-there id-width r s k within) z)
+      rw (add-one, stripped-is e, entry-there id-width r s k within)
+      (seen-fault e (shows-in r (scope e)) (name-in s k) (content-in s k) (suc k) none-left kind (entry id-width r (block-at s k)) (h ∙ entry-there id-width r s k within) (sym is ∙ z))
 
-  pub look-name : is-error kind ≡ false → shows-in r (scope e) (name-in s k) ≡ true → named (name-in s k) (answer-at e r s k) (suc k) ≡ first-seen (seen-in r e (entry id-width r (block-at s k))) (suc k) none-left
-  look-name z t =
-      rw (stripped-is e, entry-there id-width r s k within)
-      (seen-shown e (shows-in r (scope e)) (name-in s k) (content-in s k) (suc k) none-left kind (entry id-width r (block-at s k)) (h ∙ entry-there id-width r s k within) z t)
+  module _ (no : b ≡ false) (t : Bool) (shows : t ≡ shows-in r (scope e) (name-in s k)) where
+    pub look-name : t ≡ true → named (name-in s k) (answer-at e r s k) (k + 1) ≡ first-seen (seen-in r e (entry id-width r (block-at s k))) (suc k) none-left
+    look-name y =
+        rw (add-one, stripped-is e, entry-there id-width r s k within)
+        (seen-shown e (shows-in r (scope e)) (name-in s k) (content-in s k) (suc k) none-left kind (entry id-width r (block-at s k)) (h ∙ entry-there id-width r s k within) (sym is ∙ no) (sym shows ∙ y))
 
-  pub look-past : is-error kind ≡ false → shows-in r (scope e) (name-in s k) ≡ false → none-left ≡ first-seen (seen-in r e (entry id-width r (block-at s k))) (suc k) none-left
-  look-past z t =
-      rw (stripped-is e)
-      (seen-passed e (shows-in r (scope e)) (name-in s k) (content-in s k) (suc k) none-left kind (entry id-width r (block-at s k)) (h ∙ entry-there id-width r s k within) z t)
+    pub look-past : t ≡ false → none-left ≡ first-seen (seen-in r e (entry id-width r (block-at s k))) (suc k) none-left
+    look-past y =
+        rw (stripped-is e)
+        (seen-passed e (shows-in r (scope e)) (name-in s k) (content-in s k) (suc k) none-left kind (entry id-width r (block-at s k)) (h ∙ entry-there id-width r s k within) (sym is ∙ no) (sym shows ∙ y))
 
 -- ---- a turn of the loop
 
@@ -99,16 +100,16 @@ module _ (l : Left) (n : Bytes) (a : Answer) (j next : ℕ) (rest : Waiting) whe
   left-goes (shown m b) h z = absurd (true≢false (sym (ap waits h) ∙ waits-is l n a j ∙ z))
 
 module _ (r : Region) (s e : Bytes) (from i : ℕ) (at : peek (seen-in r e) (entries id-width r s) from ≡ peek (seen-in r e) (entries id-width r s) i) where
-  module _ (within : i < block-count s) (w : waiting.Waiting) (h : waiting-of e r s w ≡ first-seen (seen-in r e (entry id-width r (block-at s i))) (suc i) none-left) where
-    pub peek-found : is-left (w .left) ≡ true → waiting-of e r s w ≡ peek (seen-in r e) (entries id-width r s) from
+  module _ (within : i < block-count s) (w : waiting.Waiting) (h : waiting-of e r s w ≡ first-seen (seen-in r e (entry id-width r (block-at s i))) (suc i) none-left) (b : Bool) (is : b ≡ is-left (w .left)) where
+    pub peek-found : b ≡ true → waiting-of e r s w ≡ peek (seen-in r e) (entries id-width r s) from
     peek-found z =
-        left-stays (w .left) (name-in s (w .at)) (answer-at e r s (w .at)) (w .next) (suc i) (peek (seen-in r e) (entries id-width r s) (suc i)) (seen-in r e (entry id-width r (block-at s i))) h z
+        left-stays (w .left) (name-in s (w .at)) (answer-at e r s (w .at)) (w .next) (suc i) (peek (seen-in r e) (entries id-width r s) (suc i)) (seen-in r e (entry id-width r (block-at s i))) h (sym is ∙ z)
         ∙ sym (at ∙ peek-turn (seen-in r e) id-width r s i within)
 
-    pub peek-next : is-left (w .left) ≡ false → peek (seen-in r e) (entries id-width r s) from ≡ peek (seen-in r e) (entries id-width r s) (i + 1)
+    pub peek-next : b ≡ false → peek (seen-in r e) (entries id-width r s) from ≡ peek (seen-in r e) (entries id-width r s) (i + 1)
     peek-next z =
         at ∙ peek-turn (seen-in r e) id-width r s i within
-        ∙ rw add-one (left-goes (w .left) (name-in s (w .at)) (answer-at e r s (w .at)) (w .next) (suc i) (peek (seen-in r e) (entries id-width r s) (suc i)) (seen-in r e (entry id-width r (block-at s i))) h z)
+        ∙ rw add-one (left-goes (w .left) (name-in s (w .at)) (answer-at e r s (w .at)) (w .next) (suc i) (peek (seen-in r e) (entries id-width r s) (suc i)) (seen-in r e (entry id-width r (block-at s i))) h (sym is ∙ z))
 
   pub peek-none : block-count s ≤ i → none-left ≡ peek (seen-in r e) (entries id-width r s) from
   peek-none past = sym (at ∙ peek-stop (seen-in r e) id-width r s i past)

@@ -1,4 +1,3 @@
-use mathlib.Core.Path.{_∙_}
 use Rattle.names.specs.Means.{content}
 use Rattle.refs.specs.ListMeans.{state-of, move-of, move-in}
 use Rattle.refs.proofs.ListSteps.{advanced}
@@ -39,9 +38,8 @@ returns c =
     let common = args .common .now in
     let packed = args .packed .now in
     let state = args .state in
-    c .moved .ensures
-    ∙ advanced (state-of state) (move-of (content (state .expansion)) worktree common packed (choose .result))
-    (move-in worktree common packed (state-of state)) _
+    advanced (state-of state) _ (move-of (content (state .expansion)) worktree common packed (choose .result))
+    (move-in worktree common packed (state-of state)) _ (c .moved .ensures)
     (rw (rw (lend .ensures) at (c .before .before .before .before .before .before .peek .ensures), rw (lend .ensures) at (c .before .before .before .before .before .peek2 .ensures), rw (lend .ensures) at (c .before .before .before .before .peek3 .ensures)) at (choose .ensures (content (state .expansion))))
     (rw (lend .ensures) at (c .before .hand-out .ensures))
 

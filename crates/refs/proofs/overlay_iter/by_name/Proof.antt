@@ -1,6 +1,4 @@
-use mathlib.Core.Option.{none}
-use Rattle.refs.specs.Listing.{least}
-use mathlib.Core.Path.{ap, _∙_}
+use mathlib.Core.Path.{ap}
 use Rattle.blocks.specs.Block.{Region}
 use Rattle.refs.specs.ListMeans.{waiting-of, offer-of, positions-of}
 use Rattle.refs.proofs.ListChooses.{name-none, name-given}
@@ -41,22 +39,22 @@ past-requires-3 c κs = search needs
 returns : tie.Need-returns
 returns c e =
     let args = c .before .before .before .before .before .before .before .before .args in
+    let least = c .before .before .before .before .least in
+    let least2 = c .before .before .before .least2 in
     let least3 = c .before .before .least3 in
     let worktree = args .worktree .now in
     let common = args .common .now in
     let packed = args .packed .now in
-    let w = args .w in
-    let c′ = args .c in
-    let p = args .p in
-    name-none (waiting-of e Region.worktree worktree w) (waiting-of e Region.common common c′) (waiting-of e Region.packed packed p)
-    (positions-of (args .at)) (offer-of e worktree common packed (least3 .result))
-    (least (waiting-of e Region.worktree worktree w) (least (waiting-of e Region.common common c′) (least (waiting-of e Region.packed packed p) none)))
-    (least3 .ensures e ∙ rw (c .before .before .before .least2 .ensures e, c .before .before .before .before .least .ensures e))
-    (ap (offer-of e worktree common packed) (c .enum-told .given .1))
+    name-none (waiting-of e Region.worktree worktree (args .w)) (waiting-of e Region.common common (args .c))
+    (waiting-of e Region.packed packed (args .p)) (positions-of (args .at)) (offer-of e worktree common packed (least .result))
+    (offer-of e worktree common packed (least2 .result)) (offer-of e worktree common packed (least3 .result)) (least .ensures e) (least2 .ensures e)
+    (least3 .ensures e) (ap (offer-of e worktree common packed) (c .enum-told .given .1))
 
 returns-2 : tie.Need-returns-2
 returns-2 c e =
     let args = c .before .before .before .before .before .before .before .before .before .before .before .before .before .before .args in
+    let least = c .before .before .before .before .before .before .before .before .before .before .least in
+    let least2 = c .before .before .before .before .before .before .before .before .before .least2 in
     let least3 = c .before .before .before .before .before .before .before .before .least3 in
     let part = c .before .before .before .before .part in
     let block-name = c .before .before .before .block-name in
@@ -65,14 +63,10 @@ returns-2 c e =
     let worktree = args .worktree .now in
     let common = args .common .now in
     let packed = args .packed .now in
-    let w = args .w in
-    let c′ = args .c in
-    let p = args .p in
-    name-given (waiting-of e Region.worktree worktree w) (waiting-of e Region.common common c′) (waiting-of e Region.packed packed p)
-    (positions-of (args .at)) (offer-of e worktree common packed (least3 .result))
-    (least (waiting-of e Region.worktree worktree w) (least (waiting-of e Region.common common c′) (least (waiting-of e Region.packed packed p) none)))
-    (least3 .ensures e ∙ rw (c .before .before .before .before .before .before .before .before .before .least2 .ensures e, c .before .before .before .before .before .before .before .before .before .before .least .ensures e))
-    _ (past .result) (past2 .result) (c .past3 .result)
+    name-given (waiting-of e Region.worktree worktree (args .w)) (waiting-of e Region.common common (args .c))
+    (waiting-of e Region.packed packed (args .p)) (positions-of (args .at)) (offer-of e worktree common packed (least .result))
+    (offer-of e worktree common packed (least2 .result)) (offer-of e worktree common packed (least3 .result)) (least .ensures e) (least2 .ensures e)
+    (least3 .ensures e) _ (past .result) (past2 .result) (c .past3 .result)
     (ap (offer-of e worktree common packed) (c .before .before .before .before .before .before .given .given .1))
     (rw (block-name .ensures, part .ensures) at (past .ensures e Region.worktree))
     (rw (block-name .ensures, part .ensures) at (past2 .ensures e Region.common))

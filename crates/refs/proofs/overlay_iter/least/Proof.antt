@@ -1,7 +1,6 @@
-use mathlib.Core.Path.{sym, ap, _∙_}
-use borrow.Author.Tests.{not-true, not-false}
-use Rattle.blocks.specs.Means.{region-of, name-in}
-use Rattle.refs.specs.ListMeans.{answer-at, part-of, offer-of}
+use mathlib.Core.Path.{ap}
+use Rattle.blocks.specs.Means.{region-of}
+use Rattle.refs.specs.ListMeans.{part-of, offer-of}
 use Rattle.refs.proofs.ListChooses.{least-none, least-alone, least-first, least-second}
 use borrow.Author.Needs.{needs}
 use Rattle.refs.proofs.overlay_iter.least.Statement.{statement}
@@ -17,10 +16,8 @@ returns c e =
     let common = args .common .now in
     let packed = args .packed .now in
     let region = args .region in
-    let w = args .w in
-    least-none (w .left) (name-in (part-of worktree common packed (region-of region)) (w .at))
-    (answer-at e (region-of region) (part-of worktree common packed (region-of region)) (w .at)) (w .next)
-    (offer-of e worktree common packed (args .offered)) (sym (c .before .is-name .ensures) ∙ not-true _ (c .if1 .taken))
+    least-none e (region-of region) (part-of worktree common packed (region-of region)) (args .w) _ (c .before .is-name .ensures) (c .if1 .taken)
+    (offer-of e worktree common packed (args .offered))
 
 enum-told : tie.Need-enum-told
 enum-told c = search needs
@@ -53,13 +50,12 @@ returns-2 c e =
     let common = args .common .now in
     let packed = args .packed .now in
     let region = args .region in
-    let w = args .w in
-    least-first (w .left) (name-in (part-of worktree common packed (region-of region)) (w .at))
-    (answer-at e (region-of region) (part-of worktree common packed (region-of region)) (w .at)) (w .next)
-    (sym (c .before .before .before .before .before .before .before .before .before .before .before .is-name .ensures) ∙ not-false _ (c .before .before .before .before .before .before .before .before .before .before .if1 .left))
-    (offer-of e worktree common packed (args .offered)) _
-    (ap (offer-of e worktree common packed) (c .before .before .before .before .before .before .before .before .offered .given .1))
-    (sym (rw (c .before .before .compare .ensures, c .before .before .before .before .before .block-name .ensures, c .before .before .before .before .before .before .part .ensures, c .before .before .before .block-name2 .ensures, c .before .before .before .before .part2 .ensures) at (c .before .is-not-above .ensures)) ∙ c .if2 .taken)
+    least-first e (region-of region) (part-of worktree common packed (region-of region)) (args .w) _
+    (c .before .before .before .before .before .before .before .before .before .before .before .is-name .ensures)
+    (c .before .before .before .before .before .before .before .before .before .before .if1 .left) (offer-of e worktree common packed (args .offered)) _
+    (ap (offer-of e worktree common packed) (c .before .before .before .before .before .before .before .before .offered .given .1)) _
+    (rw (c .before .before .compare .ensures, c .before .before .before .before .before .block-name .ensures, c .before .before .before .before .before .before .part .ensures, c .before .before .before .block-name2 .ensures, c .before .before .before .before .part2 .ensures) at (c .before .is-not-above .ensures))
+    (c .if2 .taken)
 
 returns-3 : tie.Need-returns-3
 returns-3 c e =
@@ -68,11 +64,8 @@ returns-3 c e =
     let common = args .common .now in
     let packed = args .packed .now in
     let region = args .region in
-    let w = args .w in
-    least-alone (w .left) (name-in (part-of worktree common packed (region-of region)) (w .at))
-    (answer-at e (region-of region) (part-of worktree common packed (region-of region)) (w .at)) (w .next)
-    (sym (c .before .before .before .is-name .ensures) ∙ not-false _ (c .before .before .if1 .left)) (offer-of e worktree common packed (args .offered))
-    (ap (offer-of e worktree common packed) (c .enum-told .given .1))
+    least-alone e (region-of region) (part-of worktree common packed (region-of region)) (args .w) _ (c .before .before .before .is-name .ensures)
+    (c .before .before .if1 .left) (offer-of e worktree common packed (args .offered)) (ap (offer-of e worktree common packed) (c .enum-told .given .1))
 
 returns-4 : tie.Need-returns-4
 returns-4 c e =
@@ -81,13 +74,12 @@ returns-4 c e =
     let common = args .common .now in
     let packed = args .packed .now in
     let region = args .region in
-    let w = args .w in
-    least-second (w .left) (name-in (part-of worktree common packed (region-of region)) (w .at))
-    (answer-at e (region-of region) (part-of worktree common packed (region-of region)) (w .at)) (w .next)
-    (sym (c .before .before .before .before .before .before .before .before .before .before .before .is-name .ensures) ∙ not-false _ (c .before .before .before .before .before .before .before .before .before .before .if1 .left))
-    (offer-of e worktree common packed (args .offered)) _
-    (ap (offer-of e worktree common packed) (c .before .before .before .before .before .before .before .before .offered .given .1))
-    (sym (rw (c .before .before .compare .ensures, c .before .before .before .before .before .block-name .ensures, c .before .before .before .before .before .before .part .ensures, c .before .before .before .block-name2 .ensures, c .before .before .before .before .part2 .ensures) at (c .before .is-not-above .ensures)) ∙ c .if2 .left)
+    least-second e (region-of region) (part-of worktree common packed (region-of region)) (args .w) _
+    (c .before .before .before .before .before .before .before .before .before .before .before .is-name .ensures)
+    (c .before .before .before .before .before .before .before .before .before .before .if1 .left) (offer-of e worktree common packed (args .offered)) _
+    (ap (offer-of e worktree common packed) (c .before .before .before .before .before .before .before .before .offered .given .1)) _
+    (rw (c .before .before .compare .ensures, c .before .before .before .before .before .block-name .ensures, c .before .before .before .before .before .before .part .ensures, c .before .before .before .block-name2 .ensures, c .before .before .before .before .part2 .ensures) at (c .before .is-not-above .ensures))
+    (c .if2 .left)
 
 pub least-spec : {M : Type 1} → statement M
 least-spec =

@@ -1,5 +1,3 @@
-use mathlib.Core.Path.{sym, _∙_}
-use native.Mathlib.Numerals.{add-one}
 use Rattle.blocks.specs.Means.{region-of}
 use Rattle.refs.proofs.ListWaits.{look-error, look-name, look-past}
 use borrow.Author.Needs.{needs}
@@ -19,8 +17,8 @@ returns : tie.Need-returns
 returns c =
     let args = c .before .before .before .before .before .args in
     let entry-kind = c .before .before .entry-kind in
-    rw add-one
-    (look-error (region-of (args .region)) (args .s .now) (args .e .now) (args .k) (entry-kind .result) (c .before .before .before .before .before .pre) (entry-kind .ensures) (sym (c .before .is-error .ensures) ∙ c .if1 .taken))
+    look-error (region-of (args .region)) (args .s .now) (args .e .now) (args .k) (entry-kind .result) (c .before .before .before .before .before .pre)
+    (entry-kind .ensures) _ (c .before .is-error .ensures) (c .if1 .taken)
 
 block-name-requires : tie.Need-block-name-requires
 block-name-requires c κs = search needs
@@ -32,17 +30,19 @@ returns-2 : tie.Need-returns-2
 returns-2 c =
     let args = c .before .before .before .before .before .before .before .before .args in
     let entry-kind = c .before .before .before .before .before .entry-kind in
-    rw add-one
-    (look-name (region-of (args .region)) (args .s .now) (args .e .now) (args .k) (entry-kind .result) (c .before .before .before .before .before .before .before .before .pre) (entry-kind .ensures) (sym (c .before .before .before .before .is-error .ensures) ∙ c .before .before .before .if1 .left) (rw (c .before .before .block-name .ensures) at (sym (c .before .shows .ensures) ∙ c .if2 .taken)))
+    look-name (region-of (args .region)) (args .s .now) (args .e .now) (args .k) (entry-kind .result)
+    (c .before .before .before .before .before .before .before .before .pre) (entry-kind .ensures) _
+    (c .before .before .before .before .is-error .ensures) (c .before .before .before .if1 .left) _
+    (rw (c .before .before .block-name .ensures) at (c .before .shows .ensures)) (c .if2 .taken)
 
 returns-3 : tie.Need-returns-3
 returns-3 c =
     let args = c .before .before .before .before .before .before .before .before .args in
     let entry-kind = c .before .before .before .before .before .entry-kind in
     look-past (region-of (args .region)) (args .s .now) (args .e .now) (args .k) (entry-kind .result)
-    (c .before .before .before .before .before .before .before .before .pre) (entry-kind .ensures)
-    (sym (c .before .before .before .before .is-error .ensures) ∙ c .before .before .before .if1 .left)
-    (rw (c .before .before .block-name .ensures) at (sym (c .before .shows .ensures) ∙ c .if2 .left))
+    (c .before .before .before .before .before .before .before .before .pre) (entry-kind .ensures) _
+    (c .before .before .before .before .is-error .ensures) (c .before .before .before .if1 .left) _
+    (rw (c .before .before .block-name .ensures) at (c .before .shows .ensures)) (c .if2 .left)
 
 pub look-spec : {M : Type 1} → statement M
 look-spec =

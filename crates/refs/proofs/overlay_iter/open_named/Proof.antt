@@ -1,4 +1,4 @@
-use mathlib.Core.Path.{_≡_, refl, sym, ap, _∙_}
+use mathlib.Core.Path.{ap, _∙_}
 use Rattle.names.specs.Check.{gives}
 use Rattle.refs.proofs.ListOpens.{no-namespace, namespace-right, namespace-refused}
 use borrow.Author.Needs.{needs}

@@ -1,10 +1,10 @@
-use mathlib.Core.Path.{_≡_, refl, sym, _∙_}
-use Prim.Native.Nat.{_-_}
+use mathlib.Core.Path.{_≡_, refl}
 use Rattle.blocks.specs.Entry.{entries}
 use Rattle.blocks.specs.Means.{id-width, region-of, block-count}
 use Rattle.refs.specs.Listing.{peek}
 use Rattle.refs.specs.ListMeans.{seen-in}
 use Rattle.refs.proofs.ListWaits.{peek-found, peek-next, peek-none}
+use Prim.Native.Nat.{_-_}
 use native.Mathlib.Omega.{arith}
 use borrow.Author.Needs.{needs}
 use Rattle.refs.proofs.overlay_iter.peek.Statement.{statement}
@@ -30,8 +30,8 @@ returns c =
     let args = c .before .before .before .before .before .before .before .args in
     let loop = c .before .before .before .before .loop in
     let look = c .before .before .look in
-    peek-found (region-of (args .region)) (args .s .now) (args .e .now) (args .from) (loop .i) (loop .inv) (omega arith) (look .result) (look .ensures)
-    (sym (c .before .is-left .ensures) ∙ c .if1 .taken)
+    peek-found (region-of (args .region)) (args .s .now) (args .e .now) (args .from) (loop .i) (loop .inv) (omega arith) (look .result) (look .ensures) _
+    (c .before .is-left .ensures) (c .if1 .taken)
 
 add-i : tie.Need-add-i Inv-loop μ-loop
 add-i c = search needs
@@ -44,8 +44,8 @@ loop-again c =
     let args = c .before .before .before .before .before .before .before .args in
     let loop = c .before .before .before .before .loop in
     let look = c .before .before .look in
-    peek-next (region-of (args .region)) (args .s .now) (args .e .now) (args .from) (loop .i) (loop .inv) (omega arith) (look .result) (look .ensures)
-    (sym (c .before .is-left .ensures) ∙ c .if1 .left)
+    peek-next (region-of (args .region)) (args .s .now) (args .e .now) (args .from) (loop .i) (loop .inv) (omega arith) (look .result) (look .ensures) _
+    (c .before .is-left .ensures) (c .if1 .left)
 
 returns-2 : tie.Need-returns-2 Inv-loop μ-loop
 returns-2 c =

@@ -1,5 +1,5 @@
-use mathlib.Core.Path.{sym, ap, _∙_}
-use Rattle.blocks.specs.Means.{if-there, snapshot-of, sizes-check}
+use mathlib.Core.Path.{ap}
+use Rattle.blocks.specs.Means.{sizes-check}
 use Rattle.refs.specs.ListMeans.{state-of}
 use Rattle.refs.proofs.ListSteps.{step-refused, step-ended, step-moved}
 use borrow.Author.Needs.{needs}
@@ -18,9 +18,9 @@ stays-requires c κs = search needs
 returns : tie.Need-returns
 returns c =
     let args = c .before .before .before .before .before .before .before .before .args in
-    c .stays .ensures
-    ∙ step-ended (snapshot-of (args .worktree .now) (if-there (args .has-common) (args .common .now)) (args .packed .now)) (state-of (args .state))
-    (sym (c .before .before .before .before .size-check .ensures) ∙ ap sizes-check (c .before .before .enum-told .given .1)) (c .before .if1 .taken)
+    let size-check = c .before .before .before .before .size-check in
+    step-ended (args .worktree .now) (args .common .now) (args .packed .now) (args .has-common) (state-of (args .state)) _ (size-check .result)
+    (size-check .ensures) (c .before .before .enum-told .given .1) (c .before .if1 .taken) (c .stays .ensures)
 
 or-empty-requires : tie.Need-or-empty-requires
 or-empty-requires c κs = search needs
@@ -43,24 +43,24 @@ stays-requires-3 c κs = search needs
 returns-2 : tie.Need-returns-2
 returns-2 c =
     let args = c .before .before .before .before .before .before .before .before .before .args in
-    (rw (c .before .or-empty .ensures) at (c .advance .ensures))
-    ∙ step-moved (args .worktree .now) (args .common .now) (args .packed .now) (args .has-common) (state-of (args .state))
-    (sym (c .before .before .before .before .before .size-check .ensures) ∙ ap sizes-check (c .before .before .before .enum-told .given .1))
-    (c .before .before .if1 .left)
+    let size-check = c .before .before .before .before .before .size-check in
+    step-moved (args .worktree .now) (args .common .now) (args .packed .now) (args .has-common) (state-of (args .state)) _ (size-check .result)
+    (size-check .ensures) (c .before .before .before .enum-told .given .1) (c .before .before .if1 .left) _ (c .before .or-empty .ensures)
+    (c .advance .ensures)
 
 returns-3 : tie.Need-returns-3
 returns-3 c =
     let args = c .before .before .before .before .before .before .before .args in
-    c .stays2 .ensures
-    ∙ step-refused (snapshot-of (args .worktree .now) (if-there (args .has-common) (args .common .now)) (args .packed .now)) (state-of (args .state)) 1
-    (sym (c .before .before .before .size-check .ensures) ∙ ap sizes-check (c .before .enum-told2 .given .1))
+    let size-check = c .before .before .before .size-check in
+    step-refused (args .worktree .now) (args .common .now) (args .packed .now) (args .has-common) (state-of (args .state)) _ (size-check .result)
+    (size-check .ensures) 1 (ap sizes-check (c .before .enum-told2 .given .1)) (c .stays2 .ensures)
 
 returns-4 : tie.Need-returns-4
 returns-4 c =
     let args = c .before .before .before .before .before .before .before .args in
-    c .stays3 .ensures
-    ∙ step-refused (snapshot-of (args .worktree .now) (if-there (args .has-common) (args .common .now)) (args .packed .now)) (state-of (args .state)) 2
-    (sym (c .before .before .before .size-check .ensures) ∙ ap sizes-check (c .before .enum-told3 .given .1))
+    let size-check = c .before .before .before .size-check in
+    step-refused (args .worktree .now) (args .common .now) (args .packed .now) (args .has-common) (state-of (args .state)) _ (size-check .result)
+    (size-check .ensures) 2 (ap sizes-check (c .before .enum-told3 .given .1)) (c .stays3 .ensures)
 
 pub step-spec : {M : Type 1} → statement M
 step-spec =
