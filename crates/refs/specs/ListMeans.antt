@@ -33,6 +33,7 @@ use Rattle.refs.specs.declared.raw.Outcome.{Outcome}
 
 -- ---- the state and the opening
 
+-- the state that the struct holds
 abbrev pub state-of : listing.Listing → State
 state-of l = record { at = record { worktree = l .worktree; common = l .common; packed = l .packed }; ended = l .ended; expansion = content (l .expansion) }
 
@@ -43,6 +44,7 @@ opening-check opening.NotWhole = some 1
 opening-check opening.TooMany = some 2
 opening-check (opening.Refused why) = some (number why)
 
+-- a state, or the number
 abbrev pub opened : Opened → Checked State
 opened o = checked (opening-check (o .opening)) (state-of (o .state))
 
@@ -74,27 +76,31 @@ is-error PeeledRecord = false
 abbrev pub answer-at : Bytes → Region → Bytes → ℕ → Answer
 answer-at e r s k = strip-answer e (says-at (name-in s k) (entry-in id-width r s k))
 
+-- a block waits
 abbrev pub is-left : Left → Bool
 is-left left.Nothing = false
 is-left left.Error = true
 is-left left.Name = true
 
+-- what waits, of a block with that name and answer and the place behind it
 abbrev pub waiting-with : Left → Bytes → Answer → ℕ → Waiting
 waiting-with left.Nothing n a next = none-left
 waiting-with left.Error n a next = error a next
 waiting-with left.Name n a next = named n a next
 
--- name and answer are those of the block
+-- what waits in the region s: its name and answer are those of the block
 abbrev pub waiting-of : Bytes → Region → Bytes → waiting.Waiting → Waiting
 waiting-of e r s w = waiting-with (w .left) (name-in s (w .at)) (answer-at e r s (w .at)) (w .next)
 
 -- ---- the choice
 
+-- an error waits
 abbrev pub is-fault : Left → Bool
 is-fault left.Nothing = false
 is-fault left.Error = true
 is-fault left.Name = false
 
+-- a name waits
 abbrev pub is-name : Left → Bool
 is-name left.Nothing = false
 is-name left.Error = false
@@ -106,6 +112,7 @@ part-of w c p Region.worktree = w
 part-of w c p Region.common = c
 part-of w c p Region.packed = p
 
+-- the first of two names is below the second, or the same
 abbrev pub not-above : Ordering → Bool
 not-above Ordering·lt = true
 not-above Ordering·eq = true
@@ -117,17 +124,20 @@ offer-of e w c p offer.the-variants.Nothing = none
 offer-of e w c p (offer.the-variants.From r k) =
     some (record { name = name-in (part-of w c p (region-of r)) k; answer = answer-at e (region-of r) (part-of w c p (region-of r)) k })
 
+-- the answer that is handed out: "ended" where no block is
 abbrev pub offered : Option Offer → Answer
 offered none = nothing
 offered (some o) = o .answer
 
+-- the positions that the struct holds
 abbrev pub positions-of : positions.Positions → Positions
 positions-of at = record { worktree = at .worktree; common = at .common; packed = at .packed }
 
+-- what is handed out of the regions w, c, p, and the positions after it
 abbrev pub move-of : Bytes → Bytes → Bytes → Bytes → move.Move → Move
 move-of e w c p m = record { answer = offered (offer-of e w c p (m .given)); next = positions-of (m .next) }
 
--- what is true of the parts of a choice, whatever is stripped
+-- ---- what the parts of a choice promise, whatever is stripped
 
 -- o is the lesser of what waits in the region r and of q
 abbrev pub LeastOf : Bytes → Bytes → Bytes → Region → waiting.Waiting → offer.Offer → offer.Offer → Type 0
@@ -170,13 +180,15 @@ listed-with listed.Entry r = found r
 listed-with (listed.Refused why) r = refused (reason-number why)
 listed-with listed.Ended r = nothing
 
+-- the answer and the next state
 abbrev pub step-of : Stepped → Step
 step-of s = record { answer = listed-with (s .answer) (reference-of (s .reference)); next = state-of (s .next) }
 
--- l and b say what the outcome does, whatever the reference
+-- l says what the outcome does, whatever the reference
 abbrev pub Lists : Outcome → Listed → Type 0
 Lists o l = (r : Reference) → listed-with l r ≡ answer-with o r
 
+-- b is whether it is "ended"
 abbrev pub Ends : Outcome → Bool → Type 0
 Ends o b = (r : Reference) → b ≡ is-nothing (answer-with o r)
 

@@ -67,14 +67,6 @@ pub struct Opened {
     pub state: Listing,
 }
 
-fn not_opened(opening: Opening) -> Opened
-    ensures { λ o. ⌜ o .opening ≡ opening ⌝ }
-{
-    let expansion = empty();
-    let state = fresh(expansion);
-    Opened { opening, state }
-}
-
 // Each position at its region's first block.
 fn fresh(expansion: Name) -> Listing
     ensures { λ s. ⌜ state-of s ≡ start (content expansion) ⌝ }
@@ -88,6 +80,15 @@ fn fresh(expansion: Name) -> Listing
     }
 }
 
+fn not_opened(opening: Opening) -> Opened
+    ensures { λ o. ⌜ o .opening ≡ opening ⌝ }
+{
+    let expansion = empty();
+    let state = fresh(expansion);
+    Opened { opening, state }
+}
+
+// Where a namespace is given, it is checked.
 fn open_named(namespace: &[u8], has_namespace: bool) -> Opened
     ensures { λ o. ⌜ opened o ≡ checked (names-check none (if-there «has_namespace» (now (namespace .entry)))) (start (expansion (if-there «has_namespace» (now (namespace .entry))))) ⌝ }
 {
@@ -144,6 +145,7 @@ fn loose_begins(n: &[u8], e: &[u8]) -> bool
     starts_with(n, e)
 }
 
+// A loose name that is not well formed is skipped.
 fn worktree_shows(n: &[u8], e: &[u8]) -> bool
     ensures { λ r. ⌜ r ≡ worktree-shows (scope (now (e .entry))) (now (n .entry)) ⌝ }
 {
@@ -192,6 +194,7 @@ fn is_error(kind: EntryKind) -> bool
     }
 }
 
+// Whether a block waits, and as what.
 enum Left {
     Nothing,
     Error,
@@ -205,6 +208,7 @@ struct Waiting {
     next: usize,
 }
 
+// Does a block wait?
 fn is_left(w: Waiting) -> bool
     ensures { λ r. ⌜ r ≡ is-left (w .left) ⌝ }
 {
@@ -264,6 +268,7 @@ fn peek(s: &[u8], region: Region, e: &[u8], from: usize) -> Waiting
     }
 }
 
+// Does an error wait?
 fn is_fault(left: Left) -> bool
     ensures { λ r. ⌜ r ≡ is-fault left ⌝ }
 {
@@ -274,6 +279,7 @@ fn is_fault(left: Left) -> bool
     }
 }
 
+// Does a name wait?
 fn is_name(left: Left) -> bool
     ensures { λ r. ⌜ r ≡ is-name left ⌝ }
 {
@@ -290,6 +296,7 @@ enum Offer {
     From { region: Region, at: usize },
 }
 
+// Where the next block of each region is looked for.
 struct Positions {
     worktree: usize,
     common: usize,
@@ -302,6 +309,7 @@ struct Move {
     next: Positions,
 }
 
+// A region, of the three.
 fn part<'a>(worktree: &'a [u8], common: &'a [u8], packed: &'a [u8], region: Region) -> &'a [u8]
     ensures { λ r. ⌜ now r ≡ part-of (now (worktree .entry)) (now (common .entry)) (now (packed .entry)) (region-of region) ⌝ }
 {
@@ -460,6 +468,7 @@ fn answer_at(s: &[u8], region: Region, k: usize, e: &[u8]) -> Answered
     strip_answer(entry_answer(kind, own, own, block_content(s, k)), e)
 }
 
+// The answer of the block that is handed out.
 fn hand_out<'a>(
     worktree: &'a [u8],
     common: &'a [u8],
@@ -493,6 +502,7 @@ pub struct Stepped {
     pub next: Listing,
 }
 
+// The answer of a step that was not turned away.
 fn listed_of(outcome: Outcome) -> Listed
     ensures { λ l. ⌜ Lists outcome l ⌝ }
 {
@@ -503,6 +513,7 @@ fn listed_of(outcome: Outcome) -> Listed
     }
 }
 
+// Is it the answer that ends a listing?
 fn is_end(outcome: Outcome) -> bool
     ensures { λ b. ⌜ Ends outcome b ⌝ }
 {
@@ -513,6 +524,7 @@ fn is_end(outcome: Outcome) -> bool
     }
 }
 
+// The step to new positions.
 fn moved(expansion: Name, at: Positions, a: Answered) -> Stepped
     ensures { λ s. ⌜ step-of s ≡ moved-on (content expansion) (positions-of at) (answered a) ⌝ }
 {

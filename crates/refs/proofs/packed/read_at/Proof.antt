@@ -1,4 +1,4 @@
--- `read_at` meets its contract: a walk of its MIR, by hand. A reader that one call returns is held in a local and passed to the step. All that the proof knows of `new` and of `step` is that each meets its contract.
+-- `read_at` meets its contract: a walk of its MIR, by hand. A reader that one call returns is held in a local and passed to the next. All that the proof knows of `new` and of `step` is that each meets its contract.
 -- The machine value that `new` returns is stored and passed on as it is. In a local of a body MIR erases the lifetime of the struct's type, so the value is shown to have the type at `erased`: what the struct owns does not say the lifetime's name.
 use mathlib.Core.Path.{_≡_, refl, subst}
 use Prim.Native.Nat.{ℕ, _<_, _^_}
