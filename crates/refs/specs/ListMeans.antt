@@ -1,0 +1,211 @@
+-- What the listing's types mean, and what its parts promise.
+use mathlib.Core.Path.{_≡_}
+use Prim.Native.Nat.{ℕ, Ordering, Ordering·lt, Ordering·eq, Ordering·gt}
+use mathlib.Core.Bool.{Bool, true, false}
+use mathlib.Core.Option.{Option, none, some}
+use Rattle.names.specs.Bytes.{Bytes}
+use Rattle.names.specs.Check.{Check, Checked, checked}
+use Rattle.names.specs.Means.{content, number}
+use Rattle.blocks.specs.Block.{Region}
+use Rattle.blocks.specs.Entry.{Entry, entries}
+use Rattle.blocks.specs.Means.{id-width, name-in, content-in, as-entry, entry-in, region-of}
+use Rattle.blocks.specs.declared.block.EntryKind.{EntryKind}
+use Rattle.blocks.specs.declared.block.EntryKind.the-variants.{End, Damaged, Failed, Loose, Unread, Record, PeeledRecord}
+use Rattle.refs.specs.Answer.{Reference, Answer, nothing, found, refused, strip-answer}
+use Rattle.refs.specs.View.{Seen, Scope, scope, see, worktree-shows, common-shows, packed-shows}
+use Rattle.refs.specs.Listing.{Waiting, none-left, error, named, Offer, least, past, Positions, Move, by-name, choose, peek}
+use Rattle.refs.specs.Run.{State, Step, is-nothing}
+use Rattle.refs.specs.Means.{reason-number, reference-of, answer-with, says-at}
+use Rattle.refs.specs.declared.overlay_iter.Listing as listing
+use Rattle.refs.specs.declared.overlay_iter.Opening.{Opening}
+use Rattle.refs.specs.declared.overlay_iter.Opening.the-variants as opening
+use Rattle.refs.specs.declared.overlay_iter.Opened.{Opened}
+use Rattle.refs.specs.declared.overlay_iter.Left.{Left}
+use Rattle.refs.specs.declared.overlay_iter.Left.the-variants as left
+use Rattle.refs.specs.declared.overlay_iter.Waiting as waiting
+use Rattle.refs.specs.declared.overlay_iter.Offer as offer
+use Rattle.refs.specs.declared.overlay_iter.Positions as positions
+use Rattle.refs.specs.declared.overlay_iter.Move as move
+use Rattle.refs.specs.declared.overlay_iter.Listed.{Listed}
+use Rattle.refs.specs.declared.overlay_iter.Listed.the-variants as listed
+use Rattle.refs.specs.declared.overlay_iter.Stepped.{Stepped}
+use Rattle.refs.specs.declared.raw.Outcome.{Outcome}
+
+-- ---- the state and the opening
+
+-- the state that the struct holds
+abbrev pub state-of : listing.Listing → State
+state-of l = record { at = record { worktree = l .worktree; common = l .common; packed = l .packed }; ended = l .ended; expansion = content (l .expansion) }
+
+-- 1 "size not a multiple of 512", 2 "over 4,096 blocks", 3 to 5 of the namespace
+abbrev pub opening-check : Opening → Check
+opening-check opening.Opened = none
+opening-check opening.NotWhole = some 1
+opening-check opening.TooMany = some 2
+opening-check (opening.Refused why) = some (number why)
+
+-- a state, or the number
+abbrev pub opened : Opened → Checked State
+opened o = checked (opening-check (o .opening)) (state-of (o .state))
+
+-- ---- what a region shows
+
+-- the names of a region that a listing shows
+abbrev pub shows-in : Region → Scope → Bytes → Bool
+shows-in Region.worktree c = worktree-shows c
+shows-in Region.common c = common-shows c
+shows-in Region.packed c = packed-shows c
+
+-- how a listing under the expansion e sees a region
+abbrev pub seen-in : Region → Bytes → Entry → Seen
+seen-in r e = see id-width (scope e .stripped) (shows-in r (scope e))
+
+-- "Damaged blocks and kinds 3 and 5 are error entries."
+abbrev pub is-error : EntryKind → Bool
+is-error End = false
+is-error Damaged = true
+is-error Failed = true
+is-error Loose = false
+is-error Unread = false
+is-error Record = false
+is-error PeeledRecord = false
+
+-- ---- what waits
+
+-- the answer of block k under its own name, without e in front
+abbrev pub answer-at : Bytes → Region → Bytes → ℕ → Answer
+answer-at e r s k = strip-answer e (says-at (name-in s k) (entry-in id-width r s k))
+
+-- a block waits
+abbrev pub is-left : Left → Bool
+is-left left.Nothing = false
+is-left left.Error = true
+is-left left.Name = true
+
+-- what waits, of a block with that name and answer and the place behind it
+abbrev pub waiting-with : Left → Bytes → Answer → ℕ → Waiting
+waiting-with left.Nothing n a next = none-left
+waiting-with left.Error n a next = error a next
+waiting-with left.Name n a next = named n a next
+
+-- what waits in the region s: its name and answer are those of the block
+abbrev pub waiting-of : Bytes → Region → Bytes → waiting.Waiting → Waiting
+waiting-of e r s w = waiting-with (w .left) (name-in s (w .at)) (answer-at e r s (w .at)) (w .next)
+
+-- ---- the choice
+
+-- an error waits
+abbrev pub is-fault : Left → Bool
+is-fault left.Nothing = false
+is-fault left.Error = true
+is-fault left.Name = false
+
+-- a name waits
+abbrev pub is-name : Left → Bool
+is-name left.Nothing = false
+is-name left.Error = false
+is-name left.Name = true
+
+-- a region, of three
+abbrev pub part-of : Bytes → Bytes → Bytes → Region → Bytes
+part-of w c p Region.worktree = w
+part-of w c p Region.common = c
+part-of w c p Region.packed = p
+
+-- the first of two names is below the second, or the same
+abbrev pub not-above : Ordering → Bool
+not-above Ordering·lt = true
+not-above Ordering·eq = true
+not-above Ordering·gt = false
+
+-- the block of the regions w, c, p that is offered
+abbrev pub offer-of : Bytes → Bytes → Bytes → Bytes → offer.Offer → Option Offer
+offer-of e w c p offer.the-variants.Nothing = none
+offer-of e w c p (offer.the-variants.From r k) =
+    some (record { name = name-in (part-of w c p (region-of r)) k; answer = answer-at e (region-of r) (part-of w c p (region-of r)) k })
+
+-- the answer that is handed out: "ended" where no block is
+abbrev pub offered : Option Offer → Answer
+offered none = nothing
+offered (some o) = o .answer
+
+-- the positions that the struct holds
+abbrev pub positions-of : positions.Positions → Positions
+positions-of at = record { worktree = at .worktree; common = at .common; packed = at .packed }
+
+-- what is handed out of the regions w, c, p, and the positions after it
+abbrev pub move-of : Bytes → Bytes → Bytes → Bytes → move.Move → Move
+move-of e w c p m = record { answer = offered (offer-of e w c p (m .given)); next = positions-of (m .next) }
+
+-- ---- what the parts of a choice promise, whatever is stripped
+
+-- o is the lesser of what waits in the region r and of q
+abbrev pub LeastOf : Bytes → Bytes → Bytes → Region → waiting.Waiting → offer.Offer → offer.Offer → Type 0
+LeastOf w c p r x q o = (e : Bytes) → offer-of e w c p o ≡ least (waiting-of e r (part-of w c p r) x) (offer-of e w c p q)
+
+-- j is the position of the region s after the name n was handed out, i before
+abbrev pub PastOf : Bytes → Bytes → waiting.Waiting → ℕ → ℕ → Type 0
+PastOf n s x i j = (e : Bytes) (r : Region) → j ≡ past n (waiting-of e r s x) i
+
+-- m hands out the least name
+abbrev pub NameMove : Bytes → Bytes → Bytes → waiting.Waiting → waiting.Waiting → waiting.Waiting → positions.Positions → move.Move → Type 0
+NameMove w c p x y z at m =
+    (e : Bytes)
+    → move-of e w c p m
+    ≡ by-name (least (waiting-of e Region.worktree w x) (least (waiting-of e Region.common c y) (least (waiting-of e Region.packed p z) none))) (waiting-of e Region.worktree w x) (waiting-of e Region.common c y) (waiting-of e Region.packed p z) (positions-of at)
+
+-- the positions, where that of the region r is i
+abbrev pub moved-in : Region → ℕ → positions.Positions → Positions
+moved-in Region.worktree i at = record { worktree = i; common = at .common; packed = at .packed }
+moved-in Region.common i at = record { worktree = at .worktree; common = i; packed = at .packed }
+moved-in Region.packed i at = record { worktree = at .worktree; common = at .common; packed = i }
+
+-- m hands out what waits in the region r
+abbrev pub ErrorMove : Region → waiting.Waiting → positions.Positions → move.Move → Type 0
+ErrorMove r x at m =
+    (e w c p : Bytes) → move-of e w c p m ≡ record { answer = answer-at e r (part-of w c p r) (x .at); next = moved-in r (x .next) at }
+
+-- m is the choice
+abbrev pub ChosenMove : Bytes → Bytes → Bytes → waiting.Waiting → waiting.Waiting → waiting.Waiting → positions.Positions → move.Move → Type 0
+ChosenMove w c p x y z at m =
+    (e : Bytes) → move-of e w c p m ≡ choose (waiting-of e Region.worktree w x) (waiting-of e Region.common c y) (waiting-of e Region.packed p z) (positions-of at)
+
+-- ---- the step
+
+-- 1, 2, an entry, 6 to 12, ended
+abbrev pub listed-with : Listed → Reference → Answer
+listed-with listed.NotWhole r = refused 1
+listed-with listed.TooMany r = refused 2
+listed-with listed.Entry r = found r
+listed-with (listed.Refused why) r = refused (reason-number why)
+listed-with listed.Ended r = nothing
+
+-- the answer and the next state
+abbrev pub step-of : Stepped → Step
+step-of s = record { answer = listed-with (s .answer) (reference-of (s .reference)); next = state-of (s .next) }
+
+-- l says what the outcome does, whatever the reference
+abbrev pub Lists : Outcome → Listed → Type 0
+Lists o l = (r : Reference) → listed-with l r ≡ answer-with o r
+
+-- b is whether it is "ended"
+abbrev pub Ends : Outcome → Bool → Type 0
+Ends o b = (r : Reference) → b ≡ is-nothing (answer-with o r)
+
+-- the step to the positions p under the expansion e
+abbrev pub moved-on : Bytes → Positions → Answer → Step
+moved-on e p a = record { answer = a; next = record { at = p; ended = is-nothing a; expansion = e } }
+
+-- the move of a state in the regions w, c, p
+abbrev pub move-in : Bytes → Bytes → Bytes → State → Move
+move-in w c p st =
+    choose (peek (seen-in Region.worktree (st .expansion)) (entries id-width Region.worktree w) (st .at .worktree))
+    (peek (seen-in Region.common (st .expansion)) (entries id-width Region.common c) (st .at .common))
+    (peek (seen-in Region.packed (st .expansion)) (entries id-width Region.packed p) (st .at .packed))
+    (st .at)
+
+-- ---- the reader of the packed region
+
+-- the kind is that of block k of the packed region s
+abbrev pub RecordKind : Bytes → ℕ → EntryKind → Type 0
+RecordKind s k kind = as-entry id-width kind (name-in s k) (content-in s k) ≡ entry-in id-width Region.packed s k
