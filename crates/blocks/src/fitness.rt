@@ -40,7 +40,7 @@ fn is_not_too_many(s: &[u8]) -> bool
 }
 
 // An absent region lists as empty, whatever was lent for it.
-fn or_empty(common: &[u8], has_common: bool) -> &[u8]
+pub fn or_empty(common: &[u8], has_common: bool) -> &[u8]
     ensures { λ r. ⌜ now r ≡ or-empty (if-there «has_common» (now (common .entry))) ⌝ }
 {
     if has_common { common } else { &common[0..0] }

@@ -7,7 +7,6 @@ ghost use Rattle.names.specs.Check.{checked};
 ghost use Rattle.names.specs.Namespace.{expansion, names-check};
 ghost use Rattle.names.specs.Means.{content, ordering};
 ghost use Rattle.blocks.specs.Entry.{entry, entries};
-ghost use Rattle.blocks.specs.Snapshot.{or-empty};
 ghost use Rattle.blocks.specs.Means.{id-width, region-of, block-count, block-at, if-there, snapshot-of};
 ghost use Rattle.refs.specs.View.{scope, worktree-shows, common-shows};
 ghost use Rattle.refs.specs.Listing.{none-left, first-seen, peek};
@@ -29,6 +28,7 @@ use blocks::block::block_content;
 use blocks::block::block_name;
 use blocks::block::entry_kind;
 use blocks::fitness::Sizes;
+use blocks::fitness::or_empty;
 use blocks::fitness::size_check;
 use names::bytes::Order;
 use names::bytes::compare;
@@ -579,13 +579,6 @@ fn advance<'a>(state: Listing, worktree: &'a [u8], common: &'a [u8], packed: &'a
     let next = m.next;
     let a = hand_out(worktree, common, packed, given, e);
     moved(expansion, next, a)
-}
-
-// An absent region lists as empty, whatever was lent for it.
-fn or_empty(common: &[u8], has_common: bool) -> &[u8]
-    ensures { λ r. ⌜ now r ≡ or-empty (if-there «has_common» (now (common .entry))) ⌝ }
-{
-    if has_common { common } else { &common[0..0] }
 }
 
 // One step (LooseThenPacked::next): it looks no further in a region than what waits there.
