@@ -14,7 +14,7 @@ use Rattle.blocks.proofs.Sorted.{Sorted, sorted-drop}
 use Rattle.blocks.proofs.Walks.{length-entries}
 use Rattle.blocks.proofs.Entries.{entries-at}
 use Rattle.refs.specs.Answer.{block-of}
-use Rattle.refs.specs.Means.{Flawless, IndexOf}
+use Rattle.refs.specs.Promises.{Flawless, IndexOf}
 use Rattle.refs.specs.declared.find.Index.the-variants.{At, Nothing}
 use Rattle.refs.proofs.Regions.{below, here, above, region-sorted, block-named}
 

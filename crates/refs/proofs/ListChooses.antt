@@ -10,7 +10,7 @@ use Rattle.blocks.specs.Block.{Region}
 use Rattle.blocks.specs.Means.{name-in}
 use Rattle.refs.specs.Answer.{Answer}
 use Rattle.refs.specs.Listing.{Waiting, error, Offer, smaller, least, if-same, past, Positions, Move, error-else, by-name, choose}
-use Rattle.refs.specs.ListMeans.{answer-at, waiting-with, waiting-of, is-fault, is-name, not-above, offered}
+use Rattle.refs.specs.ListPromises.{answer-at, waiting-with, waiting-of, is-fault, is-name, not-above, offered}
 use Rattle.refs.specs.declared.overlay_iter.Left.{Left}
 use Rattle.refs.specs.declared.overlay_iter.Left.the-variants as left
 use Rattle.refs.specs.declared.overlay_iter.Waiting as waiting

@@ -14,7 +14,7 @@ use Rattle.refs.specs.Answer.{Answer, nothing, refused}
 use Rattle.refs.specs.View.{scope, view}
 use Rattle.refs.specs.Listing.{Move, move}
 use Rattle.refs.specs.Run.{State, Step, moved, unless-ended, step}
-use Rattle.refs.specs.ListMeans.{moved-on, move-in}
+use Rattle.refs.specs.ListPromises.{moved-on, move-in}
 use Rattle.refs.proofs.Moves.{ended-stays}
 
 -- an answer and positions are those of the move

@@ -16,7 +16,7 @@ use Rattle.blocks.proofs.Entries.{entry-there}
 use Rattle.refs.specs.Answer.{Answer, says, strip-answer}
 use Rattle.refs.specs.View.{Seen, passed-over, fault, shown, scope, see}
 use Rattle.refs.specs.Listing.{Waiting, none-left, error, named, first-seen, peek}
-use Rattle.refs.specs.ListMeans.{shows-in, seen-in, is-error, answer-at, is-left, waiting-with, waiting-of}
+use Rattle.refs.specs.ListPromises.{shows-in, seen-in, is-error, answer-at, is-left, waiting-with, waiting-of}
 use Rattle.refs.specs.declared.overlay_iter.Left.{Left}
 use Rattle.refs.specs.declared.overlay_iter.Left.the-variants as left
 use Rattle.refs.specs.declared.overlay_iter.Waiting as waiting

@@ -14,7 +14,7 @@ use Rattle.blocks.proofs.Entries.{entry-there}
 use Rattle.refs.specs.Answer.{Answer, nothing, says, strip-answer, block-of}
 use Rattle.blocks.specs.Snapshot.{Store, store, common-or, region-at}
 use Rattle.refs.specs.Search.{clashes, deciding, file-of, record-of, entry-for, answer-of}
-use Rattle.refs.specs.Means.{Flawless, FitRegions, IndexOf, ClashOf, says-at, in-common, candidate-answer}
+use Rattle.refs.specs.Promises.{Flawless, FitRegions, IndexOf, ClashOf, says-at, in-common, candidate-answer}
 use Rattle.refs.specs.declared.find.Index.{Index}
 use Rattle.refs.specs.declared.find.Index.the-variants.{At, Nothing}
 use Rattle.refs.proofs.Regions.{block-named}

@@ -21,7 +21,7 @@ use Rattle.blocks.proofs.Walks.{length-entries}
 use Rattle.blocks.proofs.Entries.{entries-at, sound-name}
 use Rattle.refs.specs.Answer.{block-of}
 use Rattle.refs.specs.Search.{clashes}
-use Rattle.refs.specs.Means.{Flawless}
+use Rattle.refs.specs.Promises.{Flawless}
 use Rattle.refs.proofs.Blocks.{absent}
 
 -- ---- sorted entries

@@ -27,7 +27,8 @@ use Rattle.refs.specs.declared.raw.Kind.the-variants.{Object, Symbolic}
 use Rattle.refs.specs.declared.raw.Outcome.{Outcome}
 use Rattle.refs.specs.declared.raw.Outcome.the-variants as outcome
 use Rattle.refs.specs.declared.raw.Reference as code
-use Rattle.refs.specs.Means.{target-of, reference-of, answer-with, says-at, BlockIs}
+use Rattle.refs.specs.Means.{target-of, reference-of, answer-with}
+use Rattle.refs.specs.Promises.{says-at, BlockIs}
 
 module _ (r : Region) (s : Bytes) (k : ℕ) (kind : EntryKind) (name c n : Bytes) (b : BlockIs r s k kind name c) where
   -- the answer is that of the kind

@@ -15,7 +15,7 @@ use Rattle.blocks.specs.Snapshot.{Snapshot, store}
 use Rattle.blocks.specs.Means.{id-width}
 use Rattle.refs.specs.Answer.{Answer, nothing, found, refused}
 use Rattle.refs.specs.Search.{or-next, lookup, first-answer, search}
-use Rattle.refs.specs.Means.{candidate, candidate-answer, between, looked-up, or-answer, first-of, pass-names, is-answer, last-answer, search-answer}
+use Rattle.refs.specs.Promises.{candidate, candidate-answer, between, looked-up, or-answer, first-of, pass-names, is-answer, last-answer, search-answer}
 
 or-left : (a b : Answer) → is-answer a ≡ true → or-answer a b ≡ a
 or-left nothing b h = absurd (false≢true h)

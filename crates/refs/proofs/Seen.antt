@@ -16,8 +16,8 @@ use Rattle.blocks.specs.Means.{id-width}
 use Rattle.refs.specs.Answer.{Reference, Answer, nothing, found, refused}
 use Rattle.refs.specs.Search.{search}
 use Rattle.refs.specs.Follow.{Followed, stopped, on-target, on-answer, max-ref-depth, among, follow-from}
-use Rattle.refs.specs.Means.{reference-of}
-use Rattle.refs.specs.FollowMeans.{followed-of, turn-of, TurnOf}
+use Rattle.refs.specs.Means.{reference-of, followed-of}
+use Rattle.refs.specs.Promises.{turn-of, TurnOf}
 use Rattle.refs.specs.declared.raw_ext.Turn.{Turn}
 
 -- ---- the array

@@ -1,35 +1,41 @@
--- What the code's types mean, and what its parts promise of regions.
+-- What the code's types mean: for each answer the paper's number and values.
 use mathlib.Core.Path.{_≡_}
-use Prim.Native.Nat.{ℕ, _<_}
-use mathlib.Core.List.{List, [], _∷_, _++_}
-use mathlib.Core.Bool.{Bool, true, false}
-use mathlib.Core.Option.{Option, none, some}
-use lib.Dec.{eqb}
-use lib.ListN.{take, drop}
-use Rattle.names.specs.Bytes.{Bytes, bytes, if_then_else_}
-use Rattle.names.specs.Means.{content, made-name, if-fits}
-use Rattle.names.specs.declared.name.Made.{Made}
+use mathlib.Core.Option.{none, some}
+use Prim.Native.Nat.{ℕ}
+use Rattle.names.specs.Bytes.{Bytes, if_then_else_}
+use Rattle.names.specs.Means.{content, number}
+use Rattle.names.specs.Check.{Check, Checked, checked}
 use Rattle.blocks.specs.Content.{Target, object, symbolic}
 use Rattle.blocks.specs.Block.{Region}
-use Rattle.blocks.specs.Entry.{Entry, entries}
-use Rattle.blocks.specs.Fitness.{first-flaw}
-use Rattle.blocks.specs.Means.{id-width, block-count, first, name-in, content-in, entry-in, as-entry}
+use Rattle.blocks.specs.Means.{id-width, name-in, content-in, entry-in, as-entry}
+use Rattle.blocks.specs.Means as blocks
 use Rattle.blocks.specs.declared.block.EntryKind.{EntryKind}
-use Rattle.refs.specs.Answer.{Reference, Answer, nothing, found, refused, says, strip-answer, block-of}
-use Rattle.names.specs.Route.{Base, own, shared, packed-name}
-use Rattle.names.specs.Candidates.{Candidate, pass, last-candidate}
-use Rattle.blocks.specs.Snapshot.{Snapshot, Store, store}
-use Rattle.refs.specs.Search.{clashes, record-of, entry-for, answer-of, lookup, first-answer, search}
+use Rattle.refs.specs.Answer.{Reference, Answer, nothing, found, refused}
+use Rattle.refs.specs.Search.{Searched, Result, answers, turned-away, unfit}
+use Rattle.refs.specs.Follow.{Followed, not-there, reached, stopped, barred}
+use Rattle.refs.specs.Run.{State, Step}
 use Rattle.refs.specs.declared.raw.Kind.{Kind}
 use Rattle.refs.specs.declared.raw.Kind.the-variants.{Object, Symbolic}
 use Rattle.refs.specs.declared.raw.Reason.{Reason}
 use Rattle.refs.specs.declared.raw.Reason.the-variants.{Damaged, ErrorKind, Unread, Unreadable, Incomplete, Unsupported}
 use Rattle.refs.specs.declared.raw.Outcome.{Outcome}
+use Rattle.refs.specs.declared.raw.Answered.{Answered}
+use Rattle.refs.specs.declared.check.Gate.{Gate}
+use Rattle.refs.specs.declared.raw_ext.Stop.{Stop}
+use Rattle.refs.specs.declared.raw_ext.Stop.the-variants.{NotFound, Cycle, TooDeep}
+use Rattle.refs.specs.declared.raw_ext.Ending.{Ending}
+use Rattle.refs.specs.declared.raw_ext.Trail.{Trail}
+use Rattle.refs.specs.declared.overlay_iter.Opening.{Opening}
+use Rattle.refs.specs.declared.overlay_iter.Opened.{Opened}
+use Rattle.refs.specs.declared.overlay_iter.Listed.{Listed}
+use Rattle.refs.specs.declared.overlay_iter.Stepped.{Stepped}
 use Rattle.refs.specs.declared.raw.Outcome.the-variants as outcome
 use Rattle.refs.specs.declared.raw.Reference as code
-use Rattle.refs.specs.declared.raw.Answered.{Answered}
-use Rattle.refs.specs.declared.find.Index.{Index}
-use Rattle.refs.specs.declared.find.Index.the-variants.{At, Nothing}
+use Rattle.refs.specs.declared.check.Gate.the-variants as gate
+use Rattle.refs.specs.declared.raw_ext.Ending.the-variants as ending
+use Rattle.refs.specs.declared.overlay_iter.Listing as listing
+use Rattle.refs.specs.declared.overlay_iter.Opening.the-variants as opening
+use Rattle.refs.specs.declared.overlay_iter.Listed.the-variants as listed
 
 -- ---- answers
 
@@ -42,10 +48,12 @@ reason-number Unreadable = 10
 reason-number Incomplete = 11
 reason-number Unsupported = 12
 
+-- the target of a kind, with the id and the name beside it
 abbrev pub target-of : Kind → Bytes → Bytes → Target
 target-of Object id name = object id
 target-of Symbolic id name = symbolic name
 
+-- the reference that the struct holds
 abbrev pub reference-of : code.Reference → Reference
 reference-of r =
     record {
@@ -54,129 +62,80 @@ reference-of r =
       peeled = if r .«has_peeled» then some (r .peeled .digits) else none;
     }
 
+-- nothing, the reference beside it, or 6, 7, 9 to 12
 abbrev pub answer-with : Outcome → Reference → Answer
 answer-with outcome.Nothing r = nothing
 answer-with outcome.Found r = found r
 answer-with (outcome.Refused why) r = refused (reason-number why)
 
+-- what the struct answers
 abbrev pub answered : Answered → Answer
 answered a = answer-with (a .outcome) (reference-of (a .reference))
 
--- what the entry of a block answers under the name n, if there is a block
-abbrev pub says-at : Bytes → Option Entry → Answer
-says-at n none = nothing
-says-at n (some e) = says id-width n e
+-- ---- calls
 
--- ---- a region fit for search
+-- an answer where the call passed, else 1 to 5, or 6 to 8 with region and block
+abbrev pub gated : {A : Type 0} → Gate → A → Result A
+gated gate.Passed a = answers a
+gated gate.NotWhole a = turned-away 1
+gated gate.TooMany a = turned-away 2
+gated (gate.Refused why) a = turned-away (number why)
+gated (gate.Unfit why r i) a = unfit (record { number = blocks.reason-number why; region = blocks.region-of r; block = i })
 
--- none of its blocks has a flaw
-abbrev pub Flawless : Region → Bytes → Type 0
-Flawless r s = first-flaw r (entries id-width r s) ≡ none
+-- what a search answers, without the number of candidates tried
+abbrev pub answer-only : Result Searched → Result Answer
+answer-only (answers s) = answers (s .answer)
+answer-only (turned-away k) = turned-away k
+answer-only (unfit f) = unfit f
 
--- no region of a snapshot has one
-pub record FitRegions (s : Snapshot) : Type 0 where
-  pub worktree : Flawless Region.worktree (s .worktree)
-  pub common : (c : Bytes) → s .common ≡ some c → Flawless Region.common c
-  pub packed : Flawless Region.packed (s .packed)
+-- ---- following
 
--- the entry of an index, if it is one
-abbrev pub indexed : Index → List Entry → Option Entry
-indexed (At k) l = first (drop k l)
-indexed Nothing l = none
+-- 13 "target not found", 14 "next name already seen", 15 "five names seen"
+abbrev pub stop-number : Stop → ℕ
+stop-number NotFound = 13
+stop-number Cycle = 14
+stop-number TooDeep = 15
 
-abbrev pub InRange : Index → ℕ → Type 0
-InRange (At k) n = k < n
-InRange Nothing n = Unit {0}
+-- not there; the id and the last reference reached; 13 to 15 with it; 9 to 12
+abbrev pub followed-of : Ending → code.Reference → Followed
+followed-of ending.NotThere r = not-there
+followed-of ending.Reached r = reached (r .id .digits) (reference-of r)
+followed-of (ending.Stopped why) r = stopped (stop-number why) (reference-of r)
+followed-of (ending.Refused why) r = barred (reason-number why)
 
--- the index is that of the block with the name p, where the region has no flaw
-pub record IndexOf (p s : Bytes) (i : Index) : Type 0 where
-  pub is : (r : Region) → Flawless r s → indexed i (entries id-width r s) ≡ block-of p (entries id-width r s)
-  pub inside : InRange i (block-count s)
+-- what the struct says of following
+abbrev pub trail-of : Trail → Followed
+trail-of t = followed-of (t .ending) (t .reference)
 
--- the answer is whether a file of the region is a directory of the path p, where the region has no flaw
-abbrev pub ClashOf : Bytes → Bytes → Bool → Type 0
-ClashOf p s b = (r : Region) → Flawless r s → b ≡ clashes p (entries id-width r s)
+-- ---- the listing
 
--- ---- the entry of a block
+-- the state that the struct holds
+abbrev pub state-of : listing.Listing → State
+state-of l = record { at = record { worktree = l .worktree; common = l .common; packed = l .packed }; ended = l .ended; expansion = content (l .expansion) }
 
--- kind, name and content are those of block k of a region
-pub record BlockIs (r : Region) (s : Bytes) (k : ℕ) (kind : EntryKind) (name content : Bytes) : Type 0 where
-  pub name-is : name ≡ name-in s k
-  pub content-is : content ≡ content-in s k
-  pub entry-is : as-entry id-width kind (name-in s k) (content-in s k) ≡ entry-in id-width r s k
+-- 1 "size not a multiple of 512", 2 "over 4,096 blocks", 3 to 5 of the namespace
+abbrev pub opening-check : Opening → Check
+opening-check opening.Opened = none
+opening-check opening.NotWhole = some 1
+opening-check opening.TooMany = some 2
+opening-check (opening.Refused why) = some (number why)
 
--- the answer is that of the entry under the name n, whatever block it is
-abbrev pub EntryAnswer : EntryKind → Bytes → Bytes → Bytes → Answered → Type 0
-EntryAnswer kind n name content a = (r : Region) (s : Bytes) (k : ℕ) → BlockIs r s k kind name content → answered a ≡ says-at n (entry-in id-width r s k)
+-- a state, or the number
+abbrev pub opened : Opened → Checked State
+opened o = checked (opening-check (o .opening)) (state-of (o .state))
 
--- the answer is that of block k, stripped of e, under the name n where the file is loose, if the region has no flaw
-abbrev pub BlockAnswer : Bytes → Bytes → Bytes → ℕ → Answered → Type 0
-BlockAnswer e n s k a = (r : Region) → Flawless r s → answered a ≡ strip-answer e (says-at n (entry-in id-width r s k))
+-- 1, 2, an entry, 6 to 12, ended
+abbrev pub listed-with : Listed → Reference → Answer
+listed-with listed.NotWhole r = refused 1
+listed-with listed.TooMany r = refused 2
+listed-with listed.Entry r = found r
+listed-with (listed.Refused why) r = refused (reason-number why)
+listed-with listed.Ended r = nothing
 
--- the answer is that of the record with the name e, n, whatever the candidate's name
-abbrev pub RecordAnswer : Bytes → Bytes → Bytes → Answered → Type 0
-RecordAnswer e n p a = (c : Bytes) → answered a ≡ answer-of id-width e c (block-of (e ++ n) (entries id-width Region.packed p))
+-- the answer and the next state
+abbrev pub step-of : Stepped → Step
+step-of s = record { answer = listed-with (s .answer) (reference-of (s .reference)); next = state-of (s .next) }
 
--- the answer is that of the record of the candidate c
-abbrev pub PackedAnswer : Bytes → Bytes → Bool → Bytes → Answered → Type 0
-PackedAnswer e c seek p a = (s : Store) → s .packed ≡ entries id-width Region.packed p → answered a ≡ answer-of id-width e c (record-of e s seek (packed-name c))
-
--- search reads the common region: a shared name, where there is one
-abbrev pub in-common : Base → Bool → Bool
-in-common own has = false
-in-common shared has = has
-
--- a candidate, and whether it is sought packed
-abbrev pub candidate : Bytes → Bool → Candidate
-candidate c seek = record { name = c; packed = seek }
-
--- what the candidate answers, over 250 bytes or not
-abbrev pub candidate-answer : Bytes → Snapshot → Bytes → Bool → Answer
-candidate-answer e s c seek = answer-of id-width e c (entry-for e (store id-width s) (candidate c seek))
-
--- ---- search
-
--- what the candidate answers: nothing, over 250 bytes
-abbrev pub looked-up : Bytes → Snapshot → Bytes → Bool → Answer
-looked-up e s n seek = lookup id-width e (store id-width s) (candidate n seek)
-
--- the first answer, or else the second
-abbrev pub or-answer : Answer → Answer → Answer
-or-answer nothing b = b
-or-answer (found r) b = found r
-or-answer (refused k) b = refused k
-
--- the first answer of names, sought packed too, or else the rest
-unfoldable pub first-of : Bytes → Snapshot → List Bytes → Answer → Answer
-first-of e s [] rest = rest
-first-of e s (n ∷ l) rest = or-answer (looked-up e s n true) (first-of e s l rest)
-
--- the directories of a pass, by number
-abbrev pub between : ℕ → Bytes
-between d = if eqb d 1 then bytes "tags/" else if eqb d 2 then bytes "heads/" else if eqb d 3 then bytes "remotes/" else []
-
--- the names of a pass; only the first, if it is left early
-abbrev pub pass-names : Bool → Bool → Bytes → List Bytes
-pass-names pseudo one x = if one then take 1 (pass pseudo x) else pass pseudo x
-
--- a pass answers so, before the rest
-abbrev pub PassAnswer : Bytes → Snapshot → List Bytes → Answered → Type 0
-PassAnswer e s l a = (rest : Answer) → first-of e s l rest ≡ or-answer (answered a) rest
-
--- the answer is that of the candidate n, if the name was made of it
-abbrev pub MadeAnswer : Bytes → Snapshot → Made → Bool → Answered → Type 0
-MadeAnswer e s m seek a = (n : Bytes) → made-name m ≡ if-fits n → answered a ≡ looked-up e s n seek
-
--- what the last candidate answers
-abbrev pub last-answer : Bytes → Snapshot → Bytes → Answer
-last-answer e s x = first-answer id-width e (store id-width s) (last-candidate x) .answer
-
--- there is an answer
-abbrev pub is-answer : Answer → Bool
-is-answer nothing = false
-is-answer (found r) = true
-is-answer (refused k) = true
-
--- what a search answers
-abbrev pub search-answer : Bytes → Snapshot → Bytes → Answer
-search-answer e s x = search id-width e (store id-width s) x .answer
+-- the kind is that of block k of the packed region s
+abbrev pub RecordKind : Bytes → ℕ → EntryKind → Type 0
+RecordKind s k kind = as-entry id-width kind (name-in s k) (content-in s k) ≡ entry-in id-width Region.packed s k

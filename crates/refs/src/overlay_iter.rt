@@ -11,8 +11,8 @@ ghost use Rattle.blocks.specs.Means.{id-width, region-of, block-count, block-at
 ghost use Rattle.refs.specs.View.{scope, worktree-shows, common-shows};
 ghost use Rattle.refs.specs.Listing.{none-left, first-seen, peek};
 ghost use Rattle.refs.specs.Run.{start, open-listing, moved, step};
-ghost use Rattle.refs.specs.Means.{answered, reference-of};
-ghost use Rattle.refs.specs.ListMeans.{state-of, opened, shows-in, seen-in, is-error, is-left, waiting-of, is-fault, is-name, part-of, not-above, LeastOf, PastOf, NameMove, ErrorMove, ChosenMove, answer-at, offered, offer-of, positions-of, listed-with, Lists, Ends, moved-on, step-of, move-in};
+ghost use Rattle.refs.specs.Means.{answered, reference-of, state-of, opened, listed-with, step-of};
+ghost use Rattle.refs.specs.ListPromises.{shows-in, seen-in, is-error, is-left, waiting-of, is-fault, is-name, part-of, not-above, LeastOf, PastOf, NameMove, ErrorMove, ChosenMove, answer-at, offered, offer-of, positions-of, Lists, Ends, moved-on, move-in};
 use crate::raw::Answered;
 use crate::raw::Outcome;
 use crate::raw::Reason;

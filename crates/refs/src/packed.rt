@@ -1,7 +1,7 @@
 // A reader of the packed region (packed::Iter): the region's slice and a block position. The work is in kind_at, on the slice
 // and the number.
 ghost use mathlib.Core.Path.{_≡_};
-ghost use Rattle.refs.specs.ListMeans.{RecordKind};
+ghost use Rattle.refs.specs.Means.{RecordKind};
 use blocks::block::EntryKind;
 use blocks::block::Region;
 use blocks::block::entry_kind;

@@ -21,9 +21,8 @@ ghost use lib.ListN.{take};
 ghost use Rattle.names.specs.Means.{content};
 ghost use Rattle.blocks.specs.Means.{id-width, if-there, snapshot-of};
 ghost use Rattle.refs.specs.Follow.{max-ref-depth, among, follow};
-ghost use Rattle.refs.specs.Means.{FitRegions, reference-of, answered};
-ghost use Rattle.refs.specs.CheckMeans.{gated};
-ghost use Rattle.refs.specs.FollowMeans.{trail-of, AnswerTurn, TurnOf, followed-from, following-of};
+ghost use Rattle.refs.specs.Promises.{FitRegions, AnswerTurn, TurnOf, followed-from, following-of};
+ghost use Rattle.refs.specs.Means.{reference-of, answered, gated, trail-of};
 
 // How many names may be seen.
 pub const MAX_REF_DEPTH: usize = 5;

@@ -7,7 +7,7 @@ use Rattle.blocks.specs.Block.{Region}
 use Rattle.blocks.specs.Entry.{entries}
 use Rattle.blocks.specs.Means.{id-width, block-count}
 use Rattle.refs.specs.Search.{clashes}
-use Rattle.refs.specs.Means.{Flawless}
+use Rattle.refs.specs.Promises.{Flawless}
 use Rattle.refs.proofs.Regions.{clash-here, clash-next, clash-end}
 use borrow.Author.Needs.{needs}
 use Rattle.refs.proofs.find.has_clash.Statement.{statement}

@@ -3,7 +3,7 @@ use lib.ListN.{drop}
 use Rattle.names.specs.Means.{content, base-of}
 use Rattle.blocks.specs.Means.{id-width, if-there, snapshot-of}
 use Rattle.blocks.specs.Snapshot.{store}
-use Rattle.refs.specs.Means.{in-common}
+use Rattle.refs.specs.Promises.{in-common}
 use Rattle.refs.proofs.Lookups.{kind-read, region-fit, lookup-clash, lookup-loose, lookup-packed}
 use borrow.Author.Needs.{needs}
 use Rattle.refs.proofs.find.lookup.Statement.{statement}

@@ -1,5 +1,6 @@
 use Rattle.names.specs.Means.{content}
-use Rattle.refs.specs.ListMeans.{state-of, move-of, move-in}
+use Rattle.refs.specs.Means.{state-of}
+use Rattle.refs.specs.ListPromises.{move-of, move-in}
 use Rattle.refs.proofs.ListSteps.{advanced}
 use borrow.Author.Needs.{needs}
 use Rattle.refs.proofs.overlay_iter.advance.Statement.{statement}

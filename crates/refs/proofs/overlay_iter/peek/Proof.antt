@@ -2,7 +2,7 @@ use mathlib.Core.Path.{_≡_, refl}
 use Rattle.blocks.specs.Entry.{entries}
 use Rattle.blocks.specs.Means.{id-width, region-of, block-count}
 use Rattle.refs.specs.Listing.{peek}
-use Rattle.refs.specs.ListMeans.{seen-in}
+use Rattle.refs.specs.ListPromises.{seen-in}
 use Rattle.refs.proofs.ListWaits.{peek-found, peek-next, peek-none}
 use Prim.Native.Nat.{_-_}
 use native.Mathlib.Omega.{arith}

@@ -1,6 +1,6 @@
 use mathlib.Core.Path.{ap}
 use Rattle.blocks.specs.Means.{sizes-check}
-use Rattle.refs.specs.ListMeans.{state-of}
+use Rattle.refs.specs.Means.{state-of}
 use Rattle.refs.proofs.ListSteps.{step-refused, step-ended, step-moved}
 use borrow.Author.Needs.{needs}
 use Rattle.refs.proofs.overlay_iter.step.Statement.{statement}

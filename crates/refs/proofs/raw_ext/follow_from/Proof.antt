@@ -7,7 +7,7 @@ use Rattle.names.specs.Means.{content}
 use Rattle.blocks.specs.Means.{if-there, snapshot-of}
 use Rattle.refs.specs.Follow.{max-ref-depth}
 use Rattle.refs.specs.Means.{reference-of}
-use Rattle.refs.specs.FollowMeans.{followed-from}
+use Rattle.refs.specs.Promises.{followed-from}
 use Rattle.refs.proofs.Seen.{after-names, turn-ends, turn-goes, stored, depth-reached}
 use native.Mathlib.Omega.{arith}
 use borrow.Author.Needs.{needs}

@@ -42,7 +42,7 @@ use denote.Triple.Table.{entered, cited}
 use denote.Triple.Walked.{says, Stays, stay-none, walkOf, goes-none, Walks, ends-at, walked, walk-meets}
 use denote.Exit.{yes}
 use denote.Triple.Clauses.{ensured, lasts}
-use Rattle.refs.specs.ListMeans.{RecordKind}
+use Rattle.refs.specs.Means.{RecordKind}
 use Rattle.refs.specs.declared.packed.PackedReader.{PackedReader}
 use Rattle.blocks.specs.declared.block.EntryKind.{EntryKind}
 use Rattle.refs.proofs.packed.PackedReader as T

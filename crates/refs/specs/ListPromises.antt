@@ -1,52 +1,30 @@
--- What the listing's types mean, and what its parts promise.
+-- What the private functions of the listing promise. Nobody has to believe these: the promises of the public functions do
+-- not speak of them.
 use mathlib.Core.Path.{_≡_}
-use Prim.Native.Nat.{ℕ, Ordering, Ordering·lt, Ordering·eq, Ordering·gt}
 use mathlib.Core.Bool.{Bool, true, false}
 use mathlib.Core.Option.{Option, none, some}
+use Prim.Native.Nat.{ℕ, Ordering, Ordering·lt, Ordering·eq, Ordering·gt}
 use Rattle.names.specs.Bytes.{Bytes}
-use Rattle.names.specs.Check.{Check, Checked, checked}
-use Rattle.names.specs.Means.{content, number}
 use Rattle.blocks.specs.Block.{Region}
 use Rattle.blocks.specs.Entry.{Entry, entries}
-use Rattle.blocks.specs.Means.{id-width, name-in, content-in, as-entry, entry-in, region-of}
+use Rattle.blocks.specs.Means.{id-width, name-in, entry-in, region-of}
 use Rattle.blocks.specs.declared.block.EntryKind.{EntryKind}
 use Rattle.blocks.specs.declared.block.EntryKind.the-variants.{End, Damaged, Failed, Loose, Unread, Record, PeeledRecord}
-use Rattle.refs.specs.Answer.{Reference, Answer, nothing, found, refused, strip-answer}
+use Rattle.refs.specs.Answer.{Reference, Answer, nothing, strip-answer}
 use Rattle.refs.specs.View.{Seen, Scope, scope, see, worktree-shows, common-shows, packed-shows}
 use Rattle.refs.specs.Listing.{Waiting, none-left, error, named, Offer, least, past, Positions, Move, by-name, choose, peek}
 use Rattle.refs.specs.Run.{State, Step, is-nothing}
-use Rattle.refs.specs.Means.{reason-number, reference-of, answer-with, says-at}
-use Rattle.refs.specs.declared.overlay_iter.Listing as listing
-use Rattle.refs.specs.declared.overlay_iter.Opening.{Opening}
-use Rattle.refs.specs.declared.overlay_iter.Opening.the-variants as opening
-use Rattle.refs.specs.declared.overlay_iter.Opened.{Opened}
+use Rattle.refs.specs.Means.{answer-with, listed-with}
+use Rattle.refs.specs.Promises.{says-at}
 use Rattle.refs.specs.declared.overlay_iter.Left.{Left}
+use Rattle.refs.specs.declared.overlay_iter.Listed.{Listed}
+use Rattle.refs.specs.declared.raw.Outcome.{Outcome}
+use Rattle.refs.specs.declared.raw.Reason.the-variants.{Damaged, Unread}
 use Rattle.refs.specs.declared.overlay_iter.Left.the-variants as left
 use Rattle.refs.specs.declared.overlay_iter.Waiting as waiting
 use Rattle.refs.specs.declared.overlay_iter.Offer as offer
 use Rattle.refs.specs.declared.overlay_iter.Positions as positions
 use Rattle.refs.specs.declared.overlay_iter.Move as move
-use Rattle.refs.specs.declared.overlay_iter.Listed.{Listed}
-use Rattle.refs.specs.declared.overlay_iter.Listed.the-variants as listed
-use Rattle.refs.specs.declared.overlay_iter.Stepped.{Stepped}
-use Rattle.refs.specs.declared.raw.Outcome.{Outcome}
-
--- ---- the state and the opening
-
--- the state that the struct holds
-abbrev pub state-of : listing.Listing → State
-state-of l = record { at = record { worktree = l .worktree; common = l .common; packed = l .packed }; ended = l .ended; expansion = content (l .expansion) }
-
--- 1 "size not a multiple of 512", 2 "over 4,096 blocks", 3 to 5 of the namespace
-abbrev pub opening-check : Opening → Check
-opening-check opening.Opened = none
-opening-check opening.NotWhole = some 1
-opening-check opening.TooMany = some 2
-opening-check (opening.Refused why) = some (number why)
-
--- a state, or the number
-abbrev pub opened : Opened → Checked State
-opened o = checked (opening-check (o .opening)) (state-of (o .state))
 
 -- ---- what a region shows
 
@@ -172,18 +150,6 @@ ChosenMove w c p x y z at m =
 
 -- ---- the step
 
--- 1, 2, an entry, 6 to 12, ended
-abbrev pub listed-with : Listed → Reference → Answer
-listed-with listed.NotWhole r = refused 1
-listed-with listed.TooMany r = refused 2
-listed-with listed.Entry r = found r
-listed-with (listed.Refused why) r = refused (reason-number why)
-listed-with listed.Ended r = nothing
-
--- the answer and the next state
-abbrev pub step-of : Stepped → Step
-step-of s = record { answer = listed-with (s .answer) (reference-of (s .reference)); next = state-of (s .next) }
-
 -- l says what the outcome does, whatever the reference
 abbrev pub Lists : Outcome → Listed → Type 0
 Lists o l = (r : Reference) → listed-with l r ≡ answer-with o r
@@ -203,9 +169,3 @@ move-in w c p st =
     (peek (seen-in Region.common (st .expansion)) (entries id-width Region.common c) (st .at .common))
     (peek (seen-in Region.packed (st .expansion)) (entries id-width Region.packed p) (st .at .packed))
     (st .at)
-
--- ---- the reader of the packed region
-
--- the kind is that of block k of the packed region s
-abbrev pub RecordKind : Bytes → ℕ → EntryKind → Type 0
-RecordKind s k kind = as-entry id-width kind (name-in s k) (content-in s k) ≡ entry-in id-width Region.packed s k
