@@ -1,4 +1,4 @@
-// Search, following and listing. The definitions are in specs/, demand 3 in proofs/Claims.antt.
+// Search, following and listing. The definitions are in specs/, their laws in proofs/.
 pub mod check;
 pub mod find;
 pub mod overlay_iter;

@@ -1,0 +1,56 @@
+-- Snapshots of made blocks, and short ways to say what they answer.
+use Prim.Native.Nat.{ℕ}
+use Prim.Native.String.{String}
+use Rattle.blocks.proofs.Make.{make}
+use Rattle.blocks.specs.Content.{object}
+use Rattle.names.specs.Bytes.{Bytes, bytes}
+use Rattle.names.specs.Check.{gives}
+use Rattle.refs.specs.Answer.{Answer, found}
+use Rattle.claims.specs.Compared.{Outcome, an-id, answers-of, outcome, handed-out}
+use Rattle.refs.specs.Follow.{follow}
+use Rattle.refs.specs.Run.{listing}
+use Rattle.blocks.specs.Snapshot.{Snapshot}
+use lib.ListN.{replicate}
+use mathlib.Core.Bool.{true}
+use mathlib.Core.List.{List, [], _∷_, _++_}
+use mathlib.Core.Option.{none, some}
+use mathlib.Core.Path.{_≡_}
+
+-- a symbolic reference, a loose file and a packed record, with ids of one digit
+abbrev pub points : String → String → Bytes
+points n t = make 1 (bytes n) (bytes "ref: " ++ bytes t)
+
+abbrev pub file : String → ℕ → Bytes
+file n d = make 1 (bytes n) (replicate 40 d)
+
+abbrev pub packed : String → ℕ → Bytes
+packed n d = make 4 (bytes n) (replicate 40 d)
+
+-- a snapshot of one loose region and a packed one
+abbrev pub snap : Bytes → Bytes → Snapshot
+snap w p = record { worktree = w; common = none; packed = p }
+
+abbrev pub ends : Snapshot → String → Outcome → Type 0
+ends s x o = outcome (follow 40 s (bytes x) none) ≡ o
+
+abbrev pub chain : Bytes
+chain = points "A" "B" ++ (points "B" "C" ++ (points "C" "D" ++ points "D" "E"))
+
+-- what the first step answers
+abbrev pub begins : Snapshot → Answer → Type 0
+begins s a = answers-of (listing 40 s none 1) ≡ a ∷ []
+
+abbrev pub ref : String → ℕ → Answer
+ref n d = found (record { name = bytes n; target = object (replicate 40 d); peeled = none })
+
+-- the id all 1
+abbrev pub ones : Outcome
+ones = an-id (replicate 40 49)
+
+-- with a common region
+abbrev pub three : Bytes → Bytes → Bytes → Snapshot
+three w c p = record { worktree = w; common = some c; packed = p }
+
+-- n steps hand out l and end the listing
+abbrev pub lists : Snapshot → ℕ → List Answer → Type 0
+lists s n l = handed-out (listing 40 s none n) ≡ gives (l, true)
