@@ -88,19 +88,28 @@ fn content(dice: &mut Dice) -> String {
     }
 }
 
-/// A region, mostly fit for search.
+/// A region, mostly fit for search: some names, and where it is loose a chain of symbolic references.
 fn small(dice: &mut Dice, packed: bool) -> Vec<u8> {
     let names: BTreeSet<String> = (0..dice.below(14)).map(|_| held(dice, packed)).collect();
-    let mut r: Vec<[u8; 512]> = Vec::new();
+    let mut blocks = BTreeMap::new();
     for name in names {
         let n = name.as_bytes();
-        r.push(match (packed, dice.below(20)) {
+        let b = match (packed, dice.below(20)) {
             (true, 0..=5) => block(4, n, format!("{:080x}", 0xFEDu32).as_bytes()),
             (true, _) => block(4, n, format!("{:040X}", 0xBEEFu32).as_bytes()),
             (false, 0) => block(2, n, b""),
             _ => block(1, n, content(dice).as_bytes()),
-        });
+        };
+        blocks.insert(name, b);
     }
+    if !packed {
+        for k in 0..dice.below(8) {
+            let name = format!("refs/c/{k}");
+            let b = block(1, name.as_bytes(), format!("ref: refs/c/{}", k + 1).as_bytes());
+            blocks.insert(name, b);
+        }
+    }
+    let mut r: Vec<[u8; 512]> = blocks.into_values().collect();
     let k = dice.below(r.len().max(1));
     match dice.below(60) {
         0 => r.insert(k, block(if packed { 5 } else { 3 }, b"", b"")),
@@ -109,8 +118,10 @@ fn small(dice: &mut Dice, packed: bool) -> Vec<u8> {
         _ => {}
     }
     let mut bytes = r.concat();
-    if dice.below(200) == 0 {
-        bytes.push(0);
+    match dice.below(400) {
+        0 | 1 => bytes.push(0),
+        2 => bytes.resize(4097 * 512, 0),
+        _ => {}
     }
     bytes
 }
@@ -121,6 +132,7 @@ fn sought(dice: &mut Dice) -> Vec<u8> {
         1 => vec![b'a'; 251],
         2 => vec![b'a'; 247],
         3 => b"nowhere".to_vec(),
+        4 => b"c/0".to_vec(),
         _ => dice.of(&NAMES).as_bytes().to_vec(),
     }
 }

@@ -95,24 +95,22 @@ fn regions(full: &Full) {
     }
 }
 
-fn searches(full: &Full) {
+type Call = fn(&Snapshot, &[u8], Option<&[u8]>) -> u32;
+
+/// A call, so many times over where it is quicker than the clock is exact.
+fn call(what: &str, full: &Full, name: &str, answer: u32, over: usize, ways: [Call; 3]) {
     let s = &full.snapshot();
-    let loose = b"refs/heads/feature/topic-004242";
-    let packed = b"refs/heads/feature/topic-012285";
-    for (what, name, answer) in [("find, loose", &loose[..], 0), ("find, packed", packed, 0), ("find, not there", b"feature/nowhere", 100)] {
-        let times = best(100, answer, [
-            &|| proved::find(black_box(s), name, None),
-            &|| twin::find(black_box(s), name, None),
-            &|| natural::find(black_box(s), name, None),
-        ]);
-        print(what, "µs", 1e3, times);
-    }
-    let times = best(100, 0, [
-        &|| proved::follow(black_box(s), b"chain/a", None),
-        &|| twin::follow(black_box(s), b"chain/a", None),
-        &|| natural::follow(black_box(s), b"chain/a", None),
-    ]);
-    print("follow, four symbolic", "µs", 1e3, times);
+    let [p, t, n] = ways.map(|way| move || (0..over).map(|_| black_box(way(black_box(s), name.as_bytes(), None))).max().unwrap());
+    print(what, "µs", 1e3 * over as f64, best(100, answer, [&p, &t, &n]));
+}
+
+fn searches(full: &Full, size: &str, over: usize) {
+    let last = 3 * (full.packed.len() / 512 - 1);
+    let find: [Call; 3] = [proved::find, twin::find, natural::find];
+    call(&format!("find, loose, {size}"), full, "refs/heads/feature/topic-000002", 0, over, find);
+    call(&format!("find, packed, {size}"), full, &format!("refs/heads/feature/topic-{last:06}"), 0, over, find);
+    call(&format!("find, not there, {size}"), full, "feature/nowhere", 100, over, find);
+    call(&format!("follow, {size}"), full, "chain/a", 0, over, [proved::follow, twin::follow, natural::follow]);
 }
 
 fn listings() {
@@ -133,6 +131,7 @@ fn main() {
     agree::all();
     let full = Full::new(4096);
     regions(&full);
-    searches(&full);
+    searches(&full, "3 x 4096", 1);
+    searches(&Full::new(8), "3 x 8", 1000);
     listings();
 }
