@@ -38,8 +38,8 @@ fn region(kind: u8, names: impl Iterator<Item = String>) -> Vec<u8> {
     blocks.flatten().collect()
 }
 
-/// Three full regions of n blocks: a worktree's own names; branches and, before them, a chain of symbolic references; branches
-/// packed, of which a sixth are loose too.
+/// Three regions of n blocks: a worktree's own names; a chain of symbolic references and branches; packed branches, of which some are
+/// loose too.
 struct Full {
     worktree: Vec<u8>,
     common: Vec<u8>,
@@ -48,10 +48,9 @@ struct Full {
 
 impl Full {
     fn new(n: usize) -> Full {
-        let chain = ["b", "c", "d", "feature/topic-000000"].iter().zip(["a", "b", "c", "d"]);
-        let mut common: Vec<u8> = chain
-            .flat_map(|(to, at)| block(1, format!("refs/heads/chain/{at}").as_bytes(), format!("ref: refs/heads/{}{to}\n", if to.len() == 1 { "chain/" } else { "" }).as_bytes()))
-            .collect();
+        let chain = [("a", "chain/b"), ("b", "chain/c"), ("c", "chain/d"), ("d", "feature/topic-000000")];
+        let symbolic = |(at, to)| block(1, format!("refs/heads/chain/{at}").as_bytes(), format!("ref: refs/heads/{to}\n").as_bytes());
+        let mut common: Vec<u8> = chain.into_iter().flat_map(symbolic).collect();
         common.extend(region(1, (0..n - 4).map(|k| format!("refs/heads/feature/topic-{:06}", 2 * k))));
         Full {
             worktree: region(1, (0..n).map(|k| format!("refs/bisect/good-{k:06}"))),
