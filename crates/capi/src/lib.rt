@@ -9,7 +9,10 @@ use blocks::fitness::Reason;
 use blocks::fitness::Verdict;
 use blocks::fitness::region_fitness;
 
-fn number_of(reason: Reason) -> u32
+pub mod listing;
+pub mod search;
+
+pub(crate) fn number_of(reason: Reason) -> u32
     ensures { λ r. ⌜ r ≡ reason-number reason ⌝ }
 {
     match reason {

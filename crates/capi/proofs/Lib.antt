@@ -1,0 +1,2 @@
+-- What the calls' proofs cite.
+pub mod Calls
