@@ -11,8 +11,7 @@ use Rattle.blocks.specs.Means as blocks
 use Rattle.refs.specs.Answer.{Answer, nothing, found, refused}
 use Rattle.refs.specs.Search.{Searched, Result, answers, turned-away, unfit}
 use Rattle.refs.specs.Follow.{Followed, not-there, reached, stopped, barred}
-use Rattle.refs.specs.Run.{Run}
-use Rattle.refs.specs.Compared.{answers-of}
+use Rattle.refs.specs.Run.{Run, answers-of}
 use Rattle.refs.specs.declared.check.Gate.{Gate}
 use Rattle.refs.specs.declared.check.Gate.the-variants as gate
 use Rattle.refs.specs.declared.overlay_iter.Opening.{Opening}

@@ -7,8 +7,8 @@ use Rattle.names.specs.Check.{Check, _or-else_, gives, checked}
 use Rattle.names.specs.Namespace.{expansion, names-check}
 use Rattle.blocks.specs.Snapshot.{Snapshot, size-check, Fit}
 use Rattle.refs.specs.Follow.{following}
-use Rattle.refs.specs.Run.{start, open-listing, run-opened, listing}
-use Rattle.claims.specs.Compared.{Rising, answers-of}
+use Rattle.refs.specs.Run.{start, open-listing, run-opened, listing, answers-of}
+use Rattle.claims.specs.Compared.{Rising}
 use Rattle.claims.specs.Demand3.{ListingCut, FollowingCut, NamesRise, Demand3}
 use Rattle.claims.proofs.Runs.{names-rise}
 use Rattle.claims.proofs.Views.{Without, without-rise, scope-honest}

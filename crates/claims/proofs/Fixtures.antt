@@ -6,9 +6,9 @@ use Rattle.blocks.specs.Content.{object}
 use Rattle.names.specs.Bytes.{Bytes, bytes}
 use Rattle.names.specs.Check.{gives}
 use Rattle.refs.specs.Answer.{Answer, found}
-use Rattle.claims.specs.Compared.{Outcome, an-id, answers-of, outcome, handed-out}
+use Rattle.claims.specs.Compared.{Outcome, an-id, outcome, handed-out}
 use Rattle.refs.specs.Follow.{follow}
-use Rattle.refs.specs.Run.{listing}
+use Rattle.refs.specs.Run.{listing, answers-of}
 use Rattle.blocks.specs.Snapshot.{Snapshot}
 use lib.ListN.{replicate}
 use mathlib.Core.Bool.{true}

@@ -47,8 +47,3 @@ Rising b [] = Unit {0}
 Rising b (nothing ∷ l) = Rising b l
 Rising b (found r ∷ l) = Above b (r .name) × Rising (some (r .name)) l
 Rising b (refused k ∷ l) = Rising b l
-
--- the answers of a run, none where the opening is refused
-abbrev pub answers-of : Checked Run → List Answer
-answers-of (gives r) = r .answers
-answers-of (refuses k) = []

@@ -17,8 +17,8 @@ use Rattle.blocks.specs.Block.{block-kind, block-name, block-content}
 use Rattle.blocks.specs.Entry.{blocks}
 use Rattle.blocks.specs.Snapshot.{Snapshot, or-empty, is-there, region-at, Fit}
 use Rattle.refs.specs.Follow.{follow}
-use Rattle.refs.specs.Run.{listing}
-use Rattle.claims.specs.Compared.{handed-out, outcome, Rising, answers-of}
+use Rattle.refs.specs.Run.{listing, answers-of}
+use Rattle.claims.specs.Compared.{handed-out, outcome, Rising}
 
 -- ---- named blocks
 
