@@ -37,6 +37,7 @@ use Rattle.blocks.specs.declared.fitness.Verdict.the-variants.{Fit, Unfi
 abbrev pub id-width : ℕ
 id-width = 40
 
+-- the region that the enum names
 abbrev pub region-of : code.Region → Region
 region-of code.the-variants.Worktree = Region.worktree
 region-of code.the-variants.Common = Region.common
@@ -58,6 +59,7 @@ pub record Within (b : Bytes) : Type 0 where
 abbrev pub name-within : Bytes → Bytes
 name-within b = if leb (name-length b) longest then block-name b else []
 
+-- the same for the content
 abbrev pub content-within : Bytes → Bytes
 content-within b = if leb (content-length b) longest-content then block-content b else []
 
@@ -77,6 +79,7 @@ as-entry width PeeledRecord n c = some (packed-record n (take width c) (some (dr
 
 -- ---- the blocks of a region
 
+-- how many whole blocks a region has
 abbrev pub block-count : Bytes → ℕ
 block-count s = length s / block-size
 
@@ -88,9 +91,11 @@ block-at s i = take block-size (drop (i * block-size) s)
 abbrev pub name-in : Bytes → ℕ → Bytes
 name-in s i = if ltb i (block-count s) then name-within (block-at s i) else []
 
+-- the same for the content
 abbrev pub content-in : Bytes → ℕ → Bytes
 content-in s i = if ltb i (block-count s) then content-within (block-at s i) else []
 
+-- the first of a list, if there is one
 abbrev pub first : {A : Type 0} → List A → Option A
 first [] = none
 first (a ∷ l) = some a
@@ -114,6 +119,7 @@ name-before s (suc i) = some (name-within (block-at s i))
 abbrev pub id-in : ℕ → Bytes → Bytes
 id-in width s = lower-case (take width (s ++ replicate width 0))
 
+-- an id's digits stand in front
 abbrev pub begins-with-id : ℕ → Bytes → Bool
 begins-with-id width s = leb width (length s) && every is-hex (take width s)
 
@@ -133,11 +139,13 @@ refusal-number Unreadable = 10
 refusal-number Incomplete = 11
 refusal-number Unsupported = 12
 
+-- what the kind says, with the id and the name beside it
 abbrev pub reading : TargetKind → Bytes → Bytes → Reading
 reading Object id name = reads (object id)
 reading Symbolic id name = reads (symbolic name)
 reading (Refused why) id name = unreadable (refusal-number why)
 
+-- what the struct says
 abbrev pub reading-of : decoded.Target → Reading
 reading-of t = reading (t .kind) (t .id .digits) (content (t .name))
 
@@ -145,6 +153,7 @@ reading-of t = reading (t .kind) (t .id .digits) (content (t .name))
 abbrev pub name-reading : Bytes → Reading
 name-reading t = if fits t then reads (symbolic t) else unreadable 11
 
+-- a reading that the struct can hold
 abbrev pub within-name : Reading → Reading
 within-name (reads (object id)) = reads (object id)
 within-name (reads (symbolic t)) = name-reading t
@@ -157,9 +166,11 @@ abbrev pub if-there : Bool → Bytes → Option Bytes
 if-there true s = some s
 if-there false s = none
 
+-- the snapshot of three regions that were lent
 abbrev pub snapshot-of : Bytes → Option Bytes → Bytes → Snapshot
 snapshot-of w c p = record { worktree = w; common = c; packed = p }
 
+-- 1 "size not a multiple of 512", 2 "over 4,096 blocks"
 abbrev pub sizes-check : Sizes → Check
 sizes-check Right = none
 sizes-check NotWhole = some 1
@@ -171,6 +182,7 @@ reason-number reason.Damaged = 6
 reason-number reason.ErrorKind = 7
 reason-number reason.NotAbove = 8
 
+-- no flaw, or number, region and block
 abbrev pub flaw-of : Verdict → Option Flaw
 flaw-of Fit = none
 flaw-of (Unfit why r i) = some (record { number = reason-number why; region = region-of r; block = i })

@@ -19,6 +19,7 @@ use Rattle.refs.specs.declared.overlay_iter.Opening.the-variants as opening
 use Rattle.refs.specs.declared.overlay_iter.Listed.{Listed}
 use Rattle.refs.specs.declared.overlay_iter.Listed.the-variants as listed
 
+-- a packed region or a worktree's
 abbrev pub region-for : Bool → Region
 region-for true = Region.packed
 region-for false = Region.worktree
@@ -42,9 +43,11 @@ answer-number nothing = 100
 answer-number (found r) = 0
 answer-number (refused k) = k
 
+-- the same of a search
 abbrev pub searched-number : Searched → ℕ
 searched-number s = answer-number (s .answer)
 
+-- the same of the call `find`
 abbrev pub find-number : Result Searched → ℕ
 find-number r = result-number searched-number r
 
@@ -55,6 +58,7 @@ followed-number (reached id r) = 0
 followed-number (stopped k r) = k
 followed-number (barred k) = k
 
+-- the same of the call `follow`
 abbrev pub follow-number : Result Followed → ℕ
 follow-number r = result-number followed-number r
 
@@ -91,6 +95,7 @@ listed-weight listed.Entry = 1
 listed-weight (listed.Refused why) = 0
 listed-weight listed.Ended = 0
 
+-- the opening was not refused
 abbrev pub is-opened : Opening → Bool
 is-opened opening.Opened = true
 is-opened opening.NotWhole = false

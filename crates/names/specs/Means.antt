@@ -51,9 +51,11 @@ held b len = take len b
 abbrev pub content : Name → Bytes
 content n = held (n .bytes) (n .len)
 
+-- the bytes of a partial name
 abbrev pub partial-content : PartialName → Bytes
 partial-content n = content (n .0)
 
+-- the bytes of a full name
 abbrev pub full-content : FullName → Bytes
 full-content n = content (n .0)
 
@@ -92,9 +94,11 @@ check-of (Refused r) = some (number r)
 abbrev pub checked-partial : CheckedPartial → Checked Bytes
 checked-partial r = checked (check-of (r .verdict)) (partial-content (r .name))
 
+-- the same of a full name
 abbrev pub checked-full : CheckedFull → Checked Bytes
 checked-full r = checked (check-of (r .verdict)) (full-content (r .name))
 
+-- the same of a namespace: its expansion
 abbrev pub checked-namespace : CheckedNamespace → Checked Bytes
 checked-namespace r = checked (check-of (r .verdict)) (expansion-content (r .name))
 

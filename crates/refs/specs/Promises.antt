@@ -57,6 +57,7 @@ abbrev pub indexed : Index → List Entry → Option Entry
 indexed (At k) l = first (drop k l)
 indexed Nothing l = none
 
+-- the number is that of one of n blocks
 abbrev pub InRange : Index → ℕ → Type 0
 InRange (At k) n = k < n
 InRange Nothing n = Unit {0}
@@ -154,6 +155,7 @@ is-answer (refused k) = true
 abbrev pub search-answer : Bytes → Snapshot → Bytes → Answer
 search-answer e s x = search id-width e (store id-width s) x .answer
 
+-- nothing, or 3 to 5
 abbrev pub names-gate : NamesGate → Check
 names-gate names.Passed = none
 names-gate (names.Refused why) = some (number why)
@@ -162,6 +164,7 @@ names-gate (names.Refused why) = some (number why)
 abbrev pub names-checked : CheckedNames → Checked Bytes
 names-checked r = checked (names-gate (r .gate)) (content (r .expansion))
 
+-- the call goes on
 abbrev pub passed : Gate → Bool
 passed gate.Passed = true
 passed gate.NotWhole = false
@@ -187,5 +190,6 @@ TurnOf e s seen r t = (go : Reference → Followed) → turn-of go t ≡ on-targ
 abbrev pub followed-from : Bytes → Snapshot → Reference → Followed
 followed-from e s r = follow-from id-width e (store id-width s) max-ref-depth [] r
 
+-- from the name x
 abbrev pub following-of : Bytes → Snapshot → Bytes → Followed
 following-of e s x = following id-width e (store id-width s) x
