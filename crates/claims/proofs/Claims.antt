@@ -5,6 +5,7 @@ use mathlib.Core.List.{[]}
 use mathlib.Core.Option.{none, some}
 use Rattle.names.specs.Check.{Check, _or-else_, gives, checked}
 use Rattle.names.specs.Namespace.{expansion, names-check}
+use Rattle.names.proofs.Rows.{names-none}
 use Rattle.blocks.specs.Snapshot.{Snapshot, size-check, Fit}
 use Rattle.refs.specs.Follow.{following}
 use Rattle.refs.specs.Run.{start, open-listing, run-opened, listing, answers-of}
@@ -17,8 +18,8 @@ use Rattle.claims.proofs.Premises.{store-cut}
 
 -- the opening passes on a snapshot fit for search
 pub opens : (width : ℕ) (s : Snapshot) → Fit width s → open-listing s none ≡ gives (start [])
-unfolding open-listing names-check
-opens width s h = rw (h .sizes)
+unfolding open-listing
+opens width s h = rw (h .sizes, names-none)
 
 pub listing-cut : ListingCut
 listing-cut width s t c = listing-in width s t (c .fit) (c .fit′) none (store-cut width s t c)

@@ -1,15 +1,12 @@
 -- Rows 1 to 8: what each check leaves of the definition.
-use mathlib.Core.Path.{_≡_, refl, sym, _∙_}
+use mathlib.Core.Path.{_≡_, refl}
 use Prim.Native.Nat.{ℕ}
 use native.Mathlib.Omega.{arith}
-use mathlib.Core.Bool.{Bool, true, false, _&&_, true≢false, false≢true}
+use mathlib.Core.Bool.{Bool, true, false, true≢false, false≢true}
 use mathlib.Core.Option.{Option, none, some, Option·map}
 use Rattle.names.specs.Bytes.{Bytes}
-use Rattle.names.specs.Check.{Check, unless, Checked, gives, refuses, checked}
-use Rattle.names.specs.Name.{fits}
-use Rattle.names.specs.Namespace.{expand, expansion, passes-if-given, names-check, expanded}
-use Rattle.names.specs.WellFormed.{well-formed}
-use Rattle.names.proofs.Tests.{and-right}
+use Rattle.names.specs.Check.{Check, gives, refuses, checked}
+use Rattle.names.specs.Namespace.{passes-if-given}
 use Rattle.blocks.specs.Block.{Region}
 use Rattle.blocks.specs.Entry.{entries}
 use Rattle.blocks.specs.Fitness.{Flaw, first-flaw}
@@ -20,29 +17,6 @@ use Rattle.refs.specs.Promises.{FitRegions, passed}
 use Rattle.refs.specs.Means.{gated}
 use Rattle.refs.specs.declared.check.Gate.{Gate}
 use Rattle.refs.specs.declared.check.Gate.the-variants as gate
-
-module _ (x : Bytes) (o : Option Bytes) where
-  pub names-long : (fits x && passes-if-given fits o) ≡ false → names-check (some x) o ≡ some 3
-  unfolding names-check
-  names-long h = rw h
-
-  module _ (h : (fits x && passes-if-given fits o) ≡ true) where
-    pub names-malformed : (well-formed x && passes-if-given well-formed o) ≡ false → names-check (some x) o ≡ some 4
-    unfolding names-check
-    names-malformed k = rw (h, k)
-
-    pub names-right : (well-formed x && passes-if-given well-formed o) ≡ true → names-check (some x) o ≡ unless 5 (fits (expansion o))
-    unfolding names-check
-    names-right k = rw (h, k)
-
--- a namespace that fits and is well formed is refused only for its expansion
-expanded-right : (s : Bytes) → fits s ≡ true → well-formed s ≡ true → expanded s ≡ checked (unless 5 (fits (expand s))) (expand s)
-unfolding expanded names-check
-expanded-right s h k = rw (h, k)
-
-module _ (x s : Bytes) (h : (fits x && fits s) ≡ true) (k : (well-formed x && well-formed s) ≡ true) where
-  pub names-expanded : (c : Checked Bytes) → c ≡ expanded s → c ≡ checked (names-check (some x) (some s)) (expand s)
-  names-expanded c e = e ∙ expanded-right s (and-right (fits x) _ h) (and-right (well-formed x) _ k) ∙ sym (rw (names-right x (some s) h k))
 
 -- ---- a namespace that is given or not
 

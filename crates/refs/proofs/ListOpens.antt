@@ -1,5 +1,5 @@
 -- The opening: a namespace that is given or not, and its check.
-use mathlib.Core.Path.{_≡_, refl}
+use mathlib.Core.Path.{_≡_, _∙_}
 use mathlib.Core.Bool.{Bool, true, false, not, true≢false, false≢true}
 use mathlib.Core.List.{[]}
 use mathlib.Core.Option.{none, some}
@@ -8,13 +8,13 @@ use native.Mathlib.Omega.{arith}
 use Rattle.names.specs.Bytes.{Bytes}
 use Rattle.names.specs.Check.{Check, gives, refuses, checked}
 use Rattle.names.specs.Namespace.{expand, expansion, names-check, expanded}
+use Rattle.names.proofs.Rows.{names-none, expanded-is}
 use Rattle.blocks.specs.Means.{if-there}
 use Rattle.refs.specs.Run.{start}
 
 pub no-namespace : (has : Bool) (s : Bytes) → not has ≡ true → gives (start []) ≡ checked (names-check none (if-there has s)) (start (expansion (if-there has s)))
-unfolding names-check
 no-namespace true s h = absurd (false≢true h)
-no-namespace false s h = refl
+no-namespace false s h = rw names-none
 
 gives-start : (k : Check) (n e : Bytes) → gives n ≡ checked k e → gives (start n) ≡ checked k (start e)
 gives-start none n e h = let q : n ≡ e = cc in rw q
@@ -25,11 +25,9 @@ refuses-start none j e h = let z : _≡_ {A = ℕ} 0 1 = cc in absurd (omega ari
 refuses-start (some k) j e h = let q : j ≡ k = cc in rw q
 
 pub namespace-right : (has : Bool) (s n : Bytes) → not has ≡ false → gives n ≡ expanded s → gives (start n) ≡ checked (names-check none (if-there has s)) (start (expansion (if-there has s)))
-unfolding expanded
-namespace-right true s n t h = gives-start (names-check none (some s)) n (expand s) h
+namespace-right true s n t h = gives-start (names-check none (some s)) n (expand s) (h ∙ expanded-is s)
 namespace-right false s n t h = absurd (true≢false t)
 
 pub namespace-refused : (has : Bool) (s : Bytes) (j : ℕ) → not has ≡ false → refuses j ≡ expanded s → refuses j ≡ checked (names-check none (if-there has s)) (start (expansion (if-there has s)))
-unfolding expanded
-namespace-refused true s j t h = refuses-start (names-check none (some s)) j (expand s) h
+namespace-refused true s j t h = refuses-start (names-check none (some s)) j (expand s) (h ∙ expanded-is s)
 namespace-refused false s j t h = absurd (true≢false t)

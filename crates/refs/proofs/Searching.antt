@@ -7,15 +7,16 @@ use mathlib.Core.Bool.{Bool, true, false, true≢false, false≢true}
 use Rattle.names.specs.Bytes.{Bytes, bytes, if_then_else_, same}
 use Rattle.names.specs.Name.{is-pseudo}
 use lib.ListN.{take, drop}
-use Rattle.names.specs.Candidates.{Candidate, full-name, pass, passes, last-candidate, sought-packed, candidates}
+use Rattle.names.specs.Candidates.{Candidate, full-name, pass, passes, last-candidate, sought-packed}
 use Rattle.names.specs.Means.{content, made-name, if-fits}
 use Rattle.names.specs.declared.name.Made.{Made}
 use Rattle.names.proofs.Held.{made-ok, made-is}
+use Rattle.names.proofs.Passes.{candidates-are, passes-are, pass-is, last-of-head, last-of-other}
 use Rattle.blocks.specs.Snapshot.{Snapshot, store}
 use Rattle.blocks.specs.Means.{id-width}
 use Rattle.refs.specs.Answer.{Answer, nothing, found, refused}
 use Rattle.refs.specs.Search.{or-next, lookup, first-answer, search}
-use Rattle.refs.specs.Promises.{candidate, candidate-answer, between, looked-up, or-answer, first-of, pass-names, is-answer, last-answer, search-answer}
+use Rattle.refs.specs.Promises.{candidate-answer, between, looked-up, or-answer, first-of, pass-names, is-answer, last-answer, search-answer}
 
 or-left : (a b : Answer) → is-answer a ≡ true → or-answer a b ≡ a
 or-left nothing b h = absurd (false≢true h)
@@ -26,10 +27,6 @@ or-right : (a b : Answer) → is-answer a ≡ false → or-answer a b ≡ b
 or-right nothing b h = refl
 or-right (found r) b h = absurd (true≢false h)
 or-right (refused k) b h = absurd (true≢false h)
-
-passes-by : (x : Bytes) (p : Bool) → p ≡ is-pseudo x → passes x ≡ (if p then take 1 (pass true x) ++ pass false x else pass true x)
-unfolding passes
-passes-by x p q = rw q
 
 module _ (e : Bytes) (s : Snapshot) where
   -- ---- a candidate that was made
@@ -62,8 +59,8 @@ module _ (e : Bytes) (s : Snapshot) where
       go (refused k) h = refl
 
   pub search-is : (x : Bytes) → search-answer e s x ≡ first-of e s (passes x) (last-answer e s x)
-  unfolding search candidates
-  search-is x = next-answer (passes x) (last-candidate x)
+  unfolding search
+  search-is x = ap (λ (l : List Candidate). first-answer id-width e (store id-width s) l .answer) (candidates-are x) ∙ next-answer (passes x) (last-candidate x)
 
   -- ---- a pass
 
@@ -71,10 +68,6 @@ module _ (e : Bytes) (s : Snapshot) where
     -- what directory d answers
     abbrev tried : ℕ → Answer
     tried d = looked-up e s (full-name pseudo (between d) x) true
-
-    -- the names of a pass from directory d on
-    abbrev from : ℕ → List Bytes
-    from d = drop d (pass pseudo x)
 
     -- the pass, but for what the directories before d gave
     abbrev pub Left : ℕ → Type 0
@@ -87,9 +80,16 @@ module _ (e : Bytes) (s : Snapshot) where
     below-four P a b c f (suc (suc (suc zero))) h = f
     below-four P a b c f (suc (suc (suc (suc d)))) h = absurd (omega arith)
 
+    -- the names of a pass
+    abbrev four : List Bytes
+    four = full-name pseudo [] x ∷ full-name pseudo (bytes "tags/") x ∷ full-name pseudo (bytes "heads/") x ∷ full-name pseudo (bytes "remotes/") x ∷ []
+
+    turn-of-four : (d : ℕ) → d < 4 → (rest : Answer) → first-of e s (drop d four) rest ≡ or-answer (tried d) (first-of e s (drop (d + 1) four) rest)
+    unfolding first-of
+    turn-of-four = below-four (λ d. (rest : Answer) → first-of e s (drop d four) rest ≡ or-answer (tried d) (first-of e s (drop (d + 1) four) rest)) (λ r. refl) (λ r. refl) (λ r. refl) (λ r. refl)
+
     turn : (d : ℕ) → d < 4 → (rest : Answer) → first-of e s (drop d (pass pseudo x)) rest ≡ or-answer (tried d) (first-of e s (drop (d + 1) (pass pseudo x)) rest)
-    unfolding first-of pass
-    turn = below-four (λ d. (rest : Answer) → first-of e s (drop d (pass pseudo x)) rest ≡ or-answer (tried d) (first-of e s (drop (d + 1) (pass pseudo x)) rest)) (λ r. refl) (λ r. refl) (λ r. refl) (λ r. refl)
+    turn d h rest = rw (pass-is x pseudo) (turn-of-four d h rest)
 
     -- how far a pass has come: directories before d gave nothing; where only the first counts, it stands there
     pub record Stands (one : Bool) (d : ℕ) : Type 0 where
@@ -111,8 +111,8 @@ module _ (e : Bytes) (s : Snapshot) where
 
       -- the first directory of a pass in which only that counts
       alone : one ≡ true → (rest : Answer) → first-of e s (take 1 (pass pseudo x)) rest ≡ or-answer a rest
-      unfolding first-of pass
-      alone o rest = let z : d ≡ 0 = h .first o in rw (t, z)
+      unfolding first-of
+      alone o rest = let z : d ≡ 0 = h .first o in rw (pass-is x pseudo, t, z)
 
       pub pass-found : is-answer a ≡ true → (rest : Answer) → first-of e s (pass-names pseudo one x) rest ≡ or-answer a rest
       pass-found n rest = go one refl
@@ -125,36 +125,32 @@ module _ (e : Bytes) (s : Snapshot) where
       pass-early n o rest = rw o (alone o rest ∙ or-right a rest n)
 
     pub pass-end : (one : Bool) (d : ℕ) → Stands one d → 4 ≤ d → (rest : Answer) → first-of e s (pass-names pseudo one x) rest ≡ rest
-    unfolding first-of pass
+    unfolding first-of
     pass-end one d h l rest = go one refl
       where
         go : (o : Bool) → one ≡ o → first-of e s (if o then take 1 (pass pseudo x) else pass pseudo x) rest ≡ rest
         go true o = absurd (omega (arith, h .first o))
-        go false o = let z : d ≡ 4 = omega (arith, h .within) in h .left rest ∙ rw z
+        go false o = let z : d ≡ 4 = omega (arith, h .within) in h .left rest ∙ rw (z, pass-is x pseudo)
 
   -- ---- the last candidate
 
+  -- what the candidates of a list answer
+  abbrev answer-of-all : List Candidate → Answer
+  answer-of-all l = first-answer id-width e (store id-width s) l .answer
+
   pub last-none : (x : Bytes) → same x (bytes "HEAD") ≡ true → nothing ≡ last-answer e s x
-  unfolding last-candidate first-answer
-  last-none x h = go (same x (bytes "HEAD")) h
-    where
-      go : (b : Bool) → b ≡ true → nothing ≡ first-answer id-width e (store id-width s) (if b then [] else candidate (full-name true (bytes "remotes/") (x ++ bytes "/HEAD")) false ∷ []) .answer
-      go true h = refl
-      go false h = absurd (false≢true h)
+  unfolding first-answer
+  last-none x h = sym (ap answer-of-all (last-of-head x h))
 
   pub last-one : (x : Bytes) → same x (bytes "HEAD") ≡ false → (a : Answer) → a ≡ looked-up e s (full-name true (bytes "remotes/") (x ++ bytes "/HEAD")) false → a ≡ last-answer e s x
-  unfolding last-candidate first-answer
-  last-one x h a g = g ∙ go (same x (bytes "HEAD")) h
+  unfolding first-answer
+  last-one x h a g =
+      g ∙ sym (only (looked-up e s (full-name true (bytes "remotes/") (x ++ bytes "/HEAD")) false)) ∙ sym (ap answer-of-all (last-of-other x h))
     where
       only : (b : Answer) → or-next b (record { tried = 0; answer = nothing }) .answer ≡ b
       only nothing = refl
       only (found r) = refl
       only (refused k) = refl
-
-      go : (b : Bool) → b ≡ false → looked-up e s (full-name true (bytes "remotes/") (x ++ bytes "/HEAD")) false
-          ≡ first-answer id-width e (store id-width s) (if b then [] else candidate (full-name true (bytes "remotes/") (x ++ bytes "/HEAD")) false ∷ []) .answer
-      go true h = absurd (true≢false h)
-      go false h = sym (only (looked-up e s (full-name true (bytes "remotes/") (x ++ bytes "/HEAD")) false))
 
   -- ---- the passes
 
@@ -169,7 +165,7 @@ module _ (e : Bytes) (s : Snapshot) where
 
   module _ (x : Bytes) (p : Bool) (q : p ≡ is-pseudo x) (a : Answer) (f : (rest : Answer) → first-of e s (pass-names true p x) rest ≡ or-answer a rest) where
     first-pass : search-answer e s x ≡ or-answer a (then-answer x p)
-    first-pass = search-is x ∙ ap (λ (l : List Bytes). first-of e s l (last-answer e s x)) (passes-by x p q) ∙ passes-then x p ∙ f (then-answer x p)
+    first-pass = search-is x ∙ ap (λ (l : List Bytes). first-of e s l (last-answer e s x)) (passes-are x p q) ∙ passes-then x p ∙ f (then-answer x p)
 
     pub search-first : is-answer a ≡ true → a ≡ search-answer e s x
     search-first n = sym (first-pass ∙ or-left a (then-answer x p) n)

@@ -5,7 +5,7 @@ use Rattle.names.specs.Namespace.{passes-if-given}
 use Rattle.names.specs.WellFormed.{well-formed}
 use borrow.Author.Tests.{not-true, not-false}
 use Rattle.blocks.specs.Means.{if-there}
-use Rattle.refs.proofs.Checks.{names-long, names-malformed, names-right, names-expanded}
+use Rattle.names.proofs.Rows.{names-long, names-malformed, names-right, names-expanded}
 use borrow.Author.Needs.{needs}
 use Rattle.refs.proofs.check.check_names.Statement.{statement}
 use Rattle.refs.proofs.check.check_names.Tie as tie

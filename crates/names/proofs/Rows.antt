@@ -1,0 +1,42 @@
+-- Rows 3 to 5 of the table: what is left of them after each check.
+use mathlib.Core.Path.{_≡_, refl, sym, _∙_}
+use mathlib.Core.Bool.{true, false, _&&_}
+use mathlib.Core.Option.{Option, none, some}
+use Rattle.names.specs.Bytes.{Bytes}
+use Rattle.names.specs.Check.{unless, Checked, checked}
+use Rattle.names.specs.Name.{fits}
+use Rattle.names.specs.Namespace.{expand, expansion, passes-if-given, names-check, expanded}
+use Rattle.names.specs.WellFormed.{well-formed}
+use Rattle.names.proofs.Tests.{and-right}
+
+-- nothing is asked where nothing is given
+pub names-none : names-check none none ≡ none
+unfolding names-check
+names-none = refl
+
+pub expanded-is : (s : Bytes) → expanded s ≡ checked (names-check none (some s)) (expand s)
+unfolding expanded
+expanded-is s = refl
+
+module _ (x : Bytes) (o : Option Bytes) where
+  pub names-long : (fits x && passes-if-given fits o) ≡ false → names-check (some x) o ≡ some 3
+  unfolding names-check
+  names-long h = rw h
+
+  module _ (h : (fits x && passes-if-given fits o) ≡ true) where
+    pub names-malformed : (well-formed x && passes-if-given well-formed o) ≡ false → names-check (some x) o ≡ some 4
+    unfolding names-check
+    names-malformed k = rw (h, k)
+
+    pub names-right : (well-formed x && passes-if-given well-formed o) ≡ true → names-check (some x) o ≡ unless 5 (fits (expansion o))
+    unfolding names-check
+    names-right k = rw (h, k)
+
+-- a namespace that fits and is well formed is refused only for its expansion
+expanded-right : (s : Bytes) → fits s ≡ true → well-formed s ≡ true → expanded s ≡ checked (unless 5 (fits (expand s))) (expand s)
+unfolding expanded names-check
+expanded-right s h k = rw (h, k)
+
+module _ (x s : Bytes) (h : (fits x && fits s) ≡ true) (k : (well-formed x && well-formed s) ≡ true) where
+  pub names-expanded : (c : Checked Bytes) → c ≡ expanded s → c ≡ checked (names-check (some x) (some s)) (expand s)
+  names-expanded c e = e ∙ expanded-right s (and-right (fits x) _ h) (and-right (well-formed x) _ k) ∙ sym (rw (names-right x (some s) h k))
