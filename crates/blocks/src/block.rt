@@ -18,7 +18,7 @@ use names::validate::well_formed;
 // The layout. Every other number of it follows from these.
 pub const BLOCK_SIZE: usize = 512;
 
-pub const MOST_BLOCKS: usize = 4096;
+pub const MOST_BLOCKS: u32 = 4096;
 
 pub const KIND_AT: usize = 0;
 

@@ -6,7 +6,7 @@ ghost use Prim.Native.Nat.{_<_};
 ghost use Rattle.names.specs.Means.{ordering};
 ghost use Rattle.blocks.specs.Entry.{entry, entries};
 ghost use Rattle.blocks.specs.Fitness.{whole, not-too-many, eight-unless, above, flaw, first-flaw};
-ghost use Rattle.blocks.specs.Snapshot.{or-empty, is-there, size-check, store, store-flaw};
+ghost use Rattle.blocks.specs.Snapshot.{or-empty, is-there, sizes-within, size-check, store, store-flaw};
 ghost use Rattle.blocks.specs.Means.{id-width, region-of, block-count, block-at, name-within, name-before, if-there, snapshot-of, sizes-check, reason-number, flaw-of, flaw-at};
 use crate::block::BLOCK_SIZE;
 use crate::block::KIND_AT;
@@ -27,16 +27,16 @@ pub enum Sizes {
     TooMany,
 }
 
-fn is_whole(s: &[u8]) -> bool
-    ensures { λ r. ⌜ r ≡ whole (now (s .entry)) ⌝ }
+fn is_whole(size: usize) -> bool
+    ensures { λ r. ⌜ r ≡ whole size ⌝ }
 {
-    s.len() % BLOCK_SIZE == 0
+    size % BLOCK_SIZE == 0
 }
 
-fn is_not_too_many(s: &[u8]) -> bool
-    ensures { λ r. ⌜ r ≡ not-too-many (now (s .entry)) ⌝ }
+fn is_not_too_many(most: u32, size: usize) -> bool
+    ensures { λ r. ⌜ r ≡ not-too-many most size ⌝ }
 {
-    s.len() <= MOST_BLOCKS * BLOCK_SIZE
+    size <= most as usize * BLOCK_SIZE
 }
 
 // An absent region lists as empty, whatever was lent for it.
@@ -52,22 +52,29 @@ fn all_three(a: bool, b: bool, c: bool) -> bool
     if a { if b { c } else { false } } else { false }
 }
 
-// Rows 1 and 2: the earlier row first, whatever the region.
-pub fn size_check(worktree: &[u8], common: &[u8], has_common: bool, packed: &[u8]) -> Sizes
-    ensures { λ r. ⌜ sizes-check r ≡ size-check (snapshot-of (now (worktree .entry)) (if-there «has_common» (now (common .entry))) (now (packed .entry))) ⌝ }
+// Rows 1 and 2 of three sizes, where a region may have so many blocks: the earlier row first, whatever the region.
+pub fn sizes_within(most: u32, worktree: usize, common: usize, packed: usize) -> Sizes
+    ensures { λ r. ⌜ sizes-check r ≡ sizes-within most worktree common packed ⌝ }
 {
-    let common = or_empty(common, has_common);
     if !all_three(is_whole(worktree), is_whole(common), is_whole(packed)) {
         return Sizes::NotWhole;
     }
     if !all_three(
-        is_not_too_many(worktree),
-        is_not_too_many(common),
-        is_not_too_many(packed),
+        is_not_too_many(most, worktree),
+        is_not_too_many(most, common),
+        is_not_too_many(most, packed),
     ) {
         return Sizes::TooMany;
     }
     Sizes::Right
+}
+
+// Rows 1 and 2 of a snapshot.
+pub fn size_check(worktree: &[u8], common: &[u8], has_common: bool, packed: &[u8]) -> Sizes
+    ensures { λ r. ⌜ sizes-check r ≡ size-check (snapshot-of (now (worktree .entry)) (if-there «has_common» (now (common .entry))) (now (packed .entry))) ⌝ }
+{
+    let common = or_empty(common, has_common);
+    sizes_within(MOST_BLOCKS, worktree.len(), common.len(), packed.len())
 }
 
 // Why a block is unfit: 6, 7 and 8.

@@ -1,5 +1,3 @@
--- The earlier row first.
-use borrow.Author.Tests.{not-true, not-false}
 use Rattle.blocks.specs.Snapshot.{size-check}
 use borrow.Author.Needs.{needs}
 use Rattle.blocks.proofs.fitness.size_check.Statement.{statement}
@@ -8,55 +6,12 @@ use Rattle.blocks.proofs.fitness.size_check.Tie as tie
 or-empty-requires : tie.Need-or-empty-requires
 or-empty-requires c κs = search needs
 
-is-whole-requires : tie.Need-is-whole-requires
-is-whole-requires c κs = search needs
-
-is-whole-requires-2 : tie.Need-is-whole-requires-2
-is-whole-requires-2 c κs = search needs
-
-is-whole-requires-3 : tie.Need-is-whole-requires-3
-is-whole-requires-3 c κs = search needs
-
-all-three-requires : tie.Need-all-three-requires
-all-three-requires c κs = search needs
+sizes-within-requires : tie.Need-sizes-within-requires
+sizes-within-requires c κs = search needs
 
 returns : tie.Need-returns
 unfolding size-check
-returns c = rw (← c .before .before .before .before .before .or-empty .ensures, ← c .before .before .before .before .is-whole .ensures, ← c .before .before .before .is-whole2 .ensures, ← c .before .before .is-whole3 .ensures, ← c .before .all-three .ensures, not-true (c .before .all-three .result) (c .if1 .taken))
-
-is-not-too-many-requires : tie.Need-is-not-too-many-requires
-is-not-too-many-requires c κs = search needs
-
-is-not-too-many-requires-2 : tie.Need-is-not-too-many-requires-2
-is-not-too-many-requires-2 c κs = search needs
-
-is-not-too-many-requires-3 : tie.Need-is-not-too-many-requires-3
-is-not-too-many-requires-3 c κs = search needs
-
-all-three-requires-2 : tie.Need-all-three-requires-2
-all-three-requires-2 c κs = search needs
-
-returns-2 : tie.Need-returns-2
-unfolding size-check
-returns-2 c = rw (← c .before .before .before .before .before .before .before .before .before .before .or-empty .ensures, ← c .before .before .before .before .before .before .before .before .before .is-whole .ensures, ← c .before .before .before .before .before .before .before .before .is-whole2 .ensures, ← c .before .before .before .before .before .before .before .is-whole3 .ensures, ← c .before .before .before .before .before .before .all-three .ensures, not-false (c .before .before .before .before .before .before .all-three .result) (c .before .before .before .before .before .if1 .left), ← c .before .before .before .before .is-not-too-many .ensures, ← c .before .before .before .is-not-too-many2 .ensures, ← c .before .before .is-not-too-many3 .ensures, ← c .before .all-three2 .ensures, not-true (c .before .all-three2 .result) (c .if2 .taken))
-
-returns-3 : tie.Need-returns-3
-unfolding size-check
-returns-3 c = rw (← c .before .before .before .before .before .before .before .before .before .before .or-empty .ensures, ← c .before .before .before .before .before .before .before .before .before .is-whole .ensures, ← c .before .before .before .before .before .before .before .before .is-whole2 .ensures, ← c .before .before .before .before .before .before .before .is-whole3 .ensures, ← c .before .before .before .before .before .before .all-three .ensures, not-false (c .before .before .before .before .before .before .all-three .result) (c .before .before .before .before .before .if1 .left), ← c .before .before .before .before .is-not-too-many .ensures, ← c .before .before .before .is-not-too-many2 .ensures, ← c .before .before .is-not-too-many3 .ensures, ← c .before .all-three2 .ensures, not-false (c .before .all-three2 .result) (c .if2 .left))
+returns c = rw (← c .before .or-empty .ensures) (c .sizes-within .ensures)
 
 pub size-check-spec : {M : Type 1} → statement M
-size-check-spec =
-    tie.close
-    (tie.spec
-    or-empty-requires
-    is-whole-requires
-    is-whole-requires-2
-    is-whole-requires-3
-    all-three-requires
-    returns
-    is-not-too-many-requires
-    is-not-too-many-requires-2
-    is-not-too-many-requires-3
-    all-three-requires-2
-    returns-2
-    returns-3)
+size-check-spec = tie.close (tie.spec or-empty-requires sizes-within-requires returns)
