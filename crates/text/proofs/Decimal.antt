@@ -1,0 +1,128 @@
+-- Decimal digits by division are those that counting up gives.
+use mathlib.Core.Path.{_≡_, refl, ap, ap₂, sym, _∙_}
+use Prim.Native.Nat.{ℕ, zero, suc, _+_, _-_, _*_, _/_, _%_, _^_, _≤_, _<_}
+use mathlib.Core.Bool.{Bool, true, false, cond}
+use mathlib.Core.List.{[], _∷_, _++_, reverse, reverseAux, append-assoc, append-nil}
+use native.Mathlib.Omega.{arith}
+use native.Mathlib.Nat.{pow-suc}
+use native.Mathlib.Numerals.{unary-clauses}
+use borrow.Author.Tests.{leb-true, leb-false, eqb-true, eqb-false, eq-eqb, ne-eqb, lt-ltb}
+use lib.Dec.{eqb, ltb, leb}
+use lib.ListN.{length, length-reverse}
+use Rattle.io.specs.Digits.{glyph, digits, Fewest}
+use Rattle.names.specs.Bytes.{Bytes, bytes, if_then_else_}
+use Rattle.names.proofs.Tests.{if-case}
+use Rattle.text.specs.Text.{zero-digit, nine-digit, one-more, numeral, decimal}
+
+-- the last k digits of n, the last one in front
+abbrev low : ℕ → ℕ → Bytes
+low zero n = []
+low (suc k) n = (48 + n % 10) ∷ low k (n / 10)
+
+glyph-is : (d : ℕ) → d < 10 → glyph d ≡ 48 + d
+glyph-is d h = rw (lt-ltb d 10 h)
+
+backwards : (k n : ℕ) (r : Bytes) → reverseAux (low k n) r ≡ digits 10 k n ++ r
+backwards zero n r = refl
+backwards (suc k) n r =
+    backwards k (n / 10) ((48 + n % 10) ∷ r)
+        ∙ ap (λ (d : ℕ). digits 10 k (n / 10) ++ (d ∷ r)) (sym (glyph-is (n % 10) (omega arith)))
+        ∙ sym (append-assoc (digits 10 k (n / 10)) (glyph (n % 10) ∷ []) r)
+
+-- ---- one more
+
+more : (d : ℕ) (l : Bytes) → one-more (d ∷ l) ≡ (if eqb d nine-digit then zero-digit ∷ one-more l else suc d ∷ l)
+unfolding one-more
+more d l = refl
+
+-- a digit that is not nine goes up, nine carries
+up : (n : ℕ) (l : Bytes) → n % 10 < 9 → one-more ((48 + n % 10) ∷ l) ≡ (48 + suc n % 10) ∷ l
+up n l h =
+    let last : 48 + suc n % 10 ≡ suc (48 + n % 10) = omega arith in
+    rw (last, more (48 + n % 10) l, ne-eqb (48 + n % 10) nine-digit (λ e. omega arith))
+
+carry : (n : ℕ) (l : Bytes) → n % 10 ≡ 9 → one-more ((48 + n % 10) ∷ l) ≡ (48 + suc n % 10) ∷ one-more l
+carry n l h =
+    let last : 48 + suc n % 10 ≡ 48 = omega arith in
+    rw (last, more (48 + n % 10) l, eq-eqb (48 + n % 10) nine-digit (omega arith))
+
+-- below the next power of ten the digits are as many
+within : (k n : ℕ) → suc n < 10 ^ k → one-more (low k n) ≡ low k (suc n)
+within zero n h = absurd (omega arith)
+within (suc k) n h = go (eqb (n % 10) 9) refl (within k (n / 10))
+  where
+    less : suc n < 10 ^ k * 10
+    less = rw (← pow-suc 10 k) h
+    go : (b : Bool) → eqb (n % 10) 9 ≡ b → (suc (n / 10) < 10 ^ k → one-more (low k (n / 10)) ≡ low k (suc (n / 10))) → one-more (low (suc k) n) ≡ low (suc k) (suc n)
+    go true e ih =
+        let nine : n % 10 ≡ 9 = eqb-true (n % 10) 9 e in
+        let tens : suc n / 10 ≡ suc (n / 10) = omega arith in
+        carry n (low k (n / 10)) nine ∙ rw (tens, ih (omega (arith, less)))
+    go false e ih =
+        let other : n % 10 ≡ 9 → ⊥ = eqb-false (n % 10) 9 e in
+        let tens : suc n / 10 ≡ n / 10 = omega arith in
+        up n (low k (n / 10)) (omega arith) ∙ rw tens
+
+-- at the power there is one digit more
+beyond : (k n : ℕ) → suc n ≡ 10 ^ k → one-more (low k n) ≡ low (suc k) (suc n)
+unfolding one-more
+beyond zero n h = let none-before : n ≡ 0 = omega arith in rw none-before
+beyond (suc k) n h =
+    let power : suc n ≡ 10 ^ k * 10 = h ∙ pow-suc 10 k in
+    let nine : n % 10 ≡ 9 = omega arith in
+    let tens : suc n / 10 ≡ suc (n / 10) = omega arith in
+    carry n (low k (n / 10)) nine ∙ rw (tens, beyond k (n / 10) (omega arith))
+
+-- ---- the fewest digits
+
+positive : (k : ℕ) → 0 < 10 ^ k
+positive zero = omega arith
+positive (suc k) = rw (pow-suc 10 k) (omega (arith, positive k))
+
+none : (k : ℕ) → Fewest 10 1 0 k → low k 0 ≡ numeral 0
+unfolding numeral
+none zero f = absurd (omega (arith, f .0))
+none (suc zero) f = refl
+none (suc (suc k)) f =
+    let least : 10 ^ k * 10 ≤ 0 = simp unary-clauses at (f .2 (omega arith)) in
+    absurd (omega (arith, positive k))
+
+grows : (n : ℕ) → ((j : ℕ) → Fewest 10 1 n j → low j n ≡ numeral n) → (k : ℕ) → Fewest 10 1 (suc n) k → low k (suc n) ≡ one-more (numeral n)
+grows n ih zero f = absurd (omega (arith, f .0))
+grows n ih (suc zero) f = sym (within 1 n (f .1)) ∙ ap one-more (ih 1 (f .0, omega (arith, f .1), λ h. absurd (omega arith)))
+grows n ih (suc (suc k)) f = go (leb (10 ^ suc k) n) refl
+  where
+    power : 10 ^ suc k ≡ 10 ^ k * 10
+    power = pow-suc 10 k
+    go : (b : Bool) → leb (10 ^ suc k) n ≡ b → low (suc (suc k)) (suc n) ≡ one-more (numeral n)
+    go true e = sym (within (suc (suc k)) n (f .1)) ∙ ap one-more (ih (suc (suc k)) (f .0, omega (arith, f .1), λ h. simp unary-clauses (omega (arith, power, leb-true (10 ^ suc k) n e))))
+    go false e =
+        let over : n < 10 ^ suc k = leb-false (10 ^ suc k) n e in
+        let under : 10 ^ k * 10 ≤ suc n = simp unary-clauses at (f .2 (omega arith)) in
+        sym (beyond (suc k) n (omega (arith, power))) ∙ ap one-more (ih (suc k) (omega arith, over, λ h. simp unary-clauses (omega (arith, power, positive k))))
+
+counts : (n k : ℕ) → Fewest 10 1 n k → low k n ≡ numeral n
+unfolding numeral
+counts zero k f = none k f
+counts (suc n) k f = grows n (counts n) k f
+
+pub decimal-digits : (n k : ℕ) → Fewest 10 1 n k → digits 10 k n ≡ decimal n
+unfolding decimal
+decimal-digits n k f = sym (append-nil (digits 10 k n)) ∙ sym (backwards k n []) ∙ ap reverse (counts n k f)
+
+-- ---- lengths
+
+more-length : (l : Bytes) → length (one-more l) ≤ suc (length l)
+unfolding one-more
+more-length [] = omega arith
+more-length (d ∷ l) = if-case (λ (x : Bytes). length x ≤ suc (suc (length l))) (eqb d nine-digit) (λ e. omega (arith, more-length l)) (λ e. omega arith)
+
+numeral-length : (n : ℕ) → length (numeral n) ≤ suc n
+unfolding numeral
+numeral-length zero = omega arith
+numeral-length (suc n) = omega (arith, more-length (numeral n), numeral-length n)
+
+-- few digits: enough to know that small numbers fit
+pub decimal-length : (n : ℕ) → length (decimal n) ≤ suc n
+unfolding decimal
+decimal-length n = rw (length-reverse (numeral n)) (numeral-length n)

@@ -1,0 +1,4 @@
+-- What the programs write.
+pub mod Text
+pub mod Reflist
+pub mod Promises

@@ -1,0 +1,3 @@
+// What the programs write, as text in a lent buffer.
+pub mod buffer;
+pub mod reflist;

@@ -1,0 +1,121 @@
+// The text of `reflist`: a heading, a line for each entry or error, and the end with their count.
+use crate::buffer::put;
+use crate::buffer::put_id;
+use crate::buffer::put_name;
+use crate::buffer::put_number;
+use names::fullname::short_name;
+use names::name::Name;
+use names::name::lend;
+use refs::overlay_iter::Listed;
+use refs::raw::Kind;
+use refs::raw::Reason;
+use refs::raw::Reference;
+ghost use mathlib.Core.Path.{_≡_};
+ghost use Prim.Native.Nat.{_+_, _≤_};
+ghost use lib.ListN.{length};
+ghost use Rattle.names.specs.Category.{short-name};
+ghost use Rattle.names.specs.Means.{content};
+ghost use Rattle.refs.specs.Means.{reason-number, reference-of, listed-with};
+ghost use Rattle.text.specs.Reflist.{most-listed, target-field, entry-line, error-line, answer-line, end-line};
+ghost use Rattle.text.specs.Promises.{Put, longest-line};
+
+// The most blocks that a file may have.
+pub const MOST_LISTED: u32 = 40;
+
+// The longest line: two names and a target of 250 bytes, `-> `, two tabs and the line's end.
+const LONGEST_LINE: usize = 756;
+
+fn put_target(out: &mut [u8], at: usize, r: Reference) -> usize
+    requires { ⌜ at + 253 ≤ length (now out) ⌝ }
+    ensures { λ n. ⌜ Put (now (out .entry)) at (target-field (reference-of r .target)) (now (out .exit)) n ⌝ }
+{
+    let kind = r.kind;
+    match kind {
+        Kind::Object => {
+            let id = r.id;
+            return put_id(out, at, id);
+        }
+        Kind::Symbolic => {
+            let n = put(out, at, b"-> ");
+            let target = r.target;
+            return put_name(out, n, target);
+        }
+    }
+}
+
+fn put_short(out: &mut [u8], at: usize, n: Name) -> usize
+    requires { ⌜ at + 250 ≤ length (now out) ⌝ }
+    ensures { λ r. ⌜ Put (now (out .entry)) at (short-name (content n)) (now (out .exit)) r ⌝ }
+{
+    let b = n.bytes;
+    let len = n.len;
+    put(out, at, short_name(lend(&b, len)))
+}
+
+fn put_entry(out: &mut [u8], at: usize, r: Reference) -> usize
+    requires { ⌜ at + longest-line ≤ length (now out) ⌝ }
+    ensures { λ n. ⌜ Put (now (out .entry)) at (entry-line (reference-of r)) (now (out .exit)) n ⌝ }
+{
+    let name = r.name;
+    let a = put_name(out, at, name);
+    let b = put(out, a, b"\t");
+    let c = put_short(out, b, name);
+    let d = put(out, c, b"\t");
+    let e = put_target(out, d, r);
+    put(out, e, b"\n")
+}
+
+fn put_error(out: &mut [u8], at: usize, number: u64) -> usize
+    requires { ⌜ at + length (error-line number) ≤ length (now out) ⌝ }
+    ensures { λ r. ⌜ Put (now (out .entry)) at (error-line number) (now (out .exit)) r ⌝ }
+{
+    let a = put(out, at, b"!\t");
+    let b = put_number(out, a, number);
+    put(out, b, b"\n")
+}
+
+fn put_end(out: &mut [u8], at: usize, count: u64) -> usize
+    requires { ⌜ at + length (end-line count) ≤ length (now out) ⌝ }
+    ensures { λ r. ⌜ Put (now (out .entry)) at (end-line count) (now (out .exit)) r ⌝ }
+{
+    let a = put(out, at, b"end\t");
+    let b = put_number(out, a, count);
+    put(out, b, b"\n")
+}
+
+fn number_of(why: Reason) -> u64
+    ensures { λ r. ⌜ r ≡ reason-number why ⌝ }
+{
+    match why {
+        Reason::Damaged => 6,
+        Reason::ErrorKind => 7,
+        Reason::Unread => 9,
+        Reason::Unreadable => 10,
+        Reason::Incomplete => 11,
+        Reason::Unsupported => 12,
+    }
+}
+
+// What is written of a step's answer.
+fn put_answer(out: &mut [u8], at: usize, a: Listed, r: Reference) -> usize
+    requires { ⌜ at + longest-line ≤ length (now out) ⌝ }
+    ensures { λ n. ⌜ Put (now (out .entry)) at (answer-line (listed-with a (reference-of r))) (now (out .exit)) n ⌝ }
+{
+    match a {
+        Listed::NotWhole => {
+            return put_error(out, at, 1);
+        }
+        Listed::TooMany => {
+            return put_error(out, at, 2);
+        }
+        Listed::Entry => {
+            return put_entry(out, at, r);
+        }
+        Listed::Refused(why) => {
+            return put_error(out, at, number_of(why));
+        }
+        Listed::Ended => {
+            return at;
+        }
+    }
+}
