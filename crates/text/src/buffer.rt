@@ -8,7 +8,7 @@ ghost use Rattle.names.specs.Name.{longest};
 ghost use Rattle.names.specs.Means.{content};
 ghost use Rattle.blocks.specs.Means.{id-width};
 ghost use Rattle.text.specs.Text.{decimal};
-ghost use Rattle.text.specs.Promises.{Put};
+ghost use Rattle.text.specs.Promises.{Put, PutWithin};
 
 // Puts s behind the first `at` bytes, and answers where it ends.
 pub(crate) fn put(out: &mut [u8], at: usize, s: &[u8]) -> usize
@@ -25,7 +25,7 @@ pub(crate) fn put(out: &mut [u8], at: usize, s: &[u8]) -> usize
 
 pub(crate) fn put_name(out: &mut [u8], at: usize, n: Name) -> usize
     requires { ⌜ at + longest ≤ length (now out) ⌝ }
-    ensures { λ r. ⌜ Put (now (out .entry)) at (content n) (now (out .exit)) r ⌝ }
+    ensures { λ r. ⌜ PutWithin longest (now (out .entry)) at (content n) (now (out .exit)) r ⌝ }
 {
     let b = n.bytes;
     let len = n.len;
@@ -34,7 +34,7 @@ pub(crate) fn put_name(out: &mut [u8], at: usize, n: Name) -> usize
 
 pub(crate) fn put_id(out: &mut [u8], at: usize, id: Id) -> usize
     requires { ⌜ at + id-width ≤ length (now out) ⌝ }
-    ensures { λ r. ⌜ Put (now (out .entry)) at (id .digits) (now (out .exit)) r ⌝ }
+    ensures { λ r. ⌜ PutWithin id-width (now (out .entry)) at (id .digits) (now (out .exit)) r ⌝ }
 {
     let digits = id.digits;
     put(out, at, &digits)

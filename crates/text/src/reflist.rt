@@ -12,12 +12,15 @@ use refs::raw::Reason;
 use refs::raw::Reference;
 ghost use mathlib.Core.Path.{_≡_};
 ghost use Prim.Native.Nat.{_+_, _≤_};
+ghost use mathlib.Core.List.{_++_};
 ghost use lib.ListN.{length};
+ghost use Rattle.names.specs.Name.{longest};
 ghost use Rattle.names.specs.Category.{short-name};
 ghost use Rattle.names.specs.Means.{content};
 ghost use Rattle.refs.specs.Means.{reason-number, reference-of, listed-with};
+ghost use Rattle.text.specs.Text.{newline, decimal};
 ghost use Rattle.text.specs.Reflist.{most-listed, target-field, entry-line, error-line, answer-line, end-line};
-ghost use Rattle.text.specs.Promises.{Put, longest-line};
+ghost use Rattle.text.specs.Promises.{Put, PutWithin, longest-target, longest-line};
 
 // The most blocks that a file may have.
 pub const MOST_LISTED: u32 = 40;
@@ -26,8 +29,8 @@ pub const MOST_LISTED: u32 = 40;
 const LONGEST_LINE: usize = 756;
 
 fn put_target(out: &mut [u8], at: usize, r: Reference) -> usize
-    requires { ⌜ at + 253 ≤ length (now out) ⌝ }
-    ensures { λ n. ⌜ Put (now (out .entry)) at (target-field (reference-of r .target)) (now (out .exit)) n ⌝ }
+    requires { ⌜ at + longest-target ≤ length (now out) ⌝ }
+    ensures { λ n. ⌜ PutWithin longest-target (now (out .entry)) at (target-field (reference-of r .target)) (now (out .exit)) n ⌝ }
 {
     let kind = r.kind;
     match kind {
@@ -44,8 +47,8 @@ fn put_target(out: &mut [u8], at: usize, r: Reference) -> usize
 }
 
 fn put_short(out: &mut [u8], at: usize, n: Name) -> usize
-    requires { ⌜ at + 250 ≤ length (now out) ⌝ }
-    ensures { λ r. ⌜ Put (now (out .entry)) at (short-name (content n)) (now (out .exit)) r ⌝ }
+    requires { ⌜ at + longest ≤ length (now out) ⌝ }
+    ensures { λ r. ⌜ PutWithin longest (now (out .entry)) at (short-name (content n)) (now (out .exit)) r ⌝ }
 {
     let b = n.bytes;
     let len = n.len;
@@ -54,7 +57,7 @@ fn put_short(out: &mut [u8], at: usize, n: Name) -> usize
 
 fn put_entry(out: &mut [u8], at: usize, r: Reference) -> usize
     requires { ⌜ at + longest-line ≤ length (now out) ⌝ }
-    ensures { λ n. ⌜ Put (now (out .entry)) at (entry-line (reference-of r)) (now (out .exit)) n ⌝ }
+    ensures { λ n. ⌜ PutWithin longest-line (now (out .entry)) at (entry-line (reference-of r)) (now (out .exit)) n ⌝ }
 {
     let name = r.name;
     let a = put_name(out, at, name);
@@ -65,21 +68,13 @@ fn put_entry(out: &mut [u8], at: usize, r: Reference) -> usize
     put(out, e, b"\n")
 }
 
-fn put_error(out: &mut [u8], at: usize, number: u64) -> usize
-    requires { ⌜ at + length (error-line number) ≤ length (now out) ⌝ }
-    ensures { λ r. ⌜ Put (now (out .entry)) at (error-line number) (now (out .exit)) r ⌝ }
+// A word, a number and the line's end.
+fn put_numbered(out: &mut [u8], at: usize, word: &[u8], n: u64) -> usize
+    requires { ⌜ at + length (now word) + length (decimal n) + 1 ≤ length (now out) ⌝ }
+    ensures { λ r. ⌜ Put (now (out .entry)) at (now (word .entry) ++ decimal n ++ newline) (now (out .exit)) r ⌝ }
 {
-    let a = put(out, at, b"!\t");
-    let b = put_number(out, a, number);
-    put(out, b, b"\n")
-}
-
-fn put_end(out: &mut [u8], at: usize, count: u64) -> usize
-    requires { ⌜ at + length (end-line count) ≤ length (now out) ⌝ }
-    ensures { λ r. ⌜ Put (now (out .entry)) at (end-line count) (now (out .exit)) r ⌝ }
-{
-    let a = put(out, at, b"end\t");
-    let b = put_number(out, a, count);
+    let a = put(out, at, word);
+    let b = put_number(out, a, n);
     put(out, b, b"\n")
 }
 
@@ -99,20 +94,20 @@ fn number_of(why: Reason) -> u64
 // What is written of a step's answer.
 fn put_answer(out: &mut [u8], at: usize, a: Listed, r: Reference) -> usize
     requires { ⌜ at + longest-line ≤ length (now out) ⌝ }
-    ensures { λ n. ⌜ Put (now (out .entry)) at (answer-line (listed-with a (reference-of r))) (now (out .exit)) n ⌝ }
+    ensures { λ n. ⌜ PutWithin longest-line (now (out .entry)) at (answer-line (listed-with a (reference-of r))) (now (out .exit)) n ⌝ }
 {
     match a {
         Listed::NotWhole => {
-            return put_error(out, at, 1);
+            return put_numbered(out, at, b"!\t", 1);
         }
         Listed::TooMany => {
-            return put_error(out, at, 2);
+            return put_numbered(out, at, b"!\t", 2);
         }
         Listed::Entry => {
             return put_entry(out, at, r);
         }
         Listed::Refused(why) => {
-            return put_error(out, at, number_of(why));
+            return put_numbered(out, at, b"!\t", number_of(why));
         }
         Listed::Ended => {
             return at;

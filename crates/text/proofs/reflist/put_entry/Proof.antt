@@ -1,57 +1,53 @@
+use Rattle.text.specs.Reflist.{entry-line}
+use Rattle.text.proofs.Puts.{both-within, within-then}
 use native.Mathlib.Omega.{arith}
 use borrow.Author.Needs.{needs}
 use Rattle.text.proofs.reflist.put_entry.Statement.{statement}
 use Rattle.text.proofs.reflist.put_entry.Tie as tie
-use Rattle.text.proofs.reflist.put_entry.Reads as reads
-use Rattle.text.proofs.reflist.put_entry.Lts as lts
-use Rattle.text.proofs.buffer.put.Reads as put-reads
-use Rattle.text.proofs.buffer.put_name.Reads as put-name-reads
-use Rattle.text.proofs.reflist.put_short.Reads as put-short-reads
-use Rattle.text.proofs.reflist.put_target.Reads as put-target-reads
 
--- src/reflist.rt:60:9
 put-name-requires : tie.Need-put-name-requires
 put-name-requires c κs = search needs
 
--- src/reflist.rt:61:25
 slice-aggregate-put : tie.Need-slice-aggregate-put
 slice-aggregate-put c = search needs
 
--- src/reflist.rt:61:9
 put-requires : tie.Need-put-requires
-put-requires c κs = ?
+put-requires c κs =
+    let so-far = (c .before .before .before .before .put-name .ensures) in
+    omega (arith, so-far .put .size, so-far .within, c .before .before .before .before .before .before .before .before .pre)
 
--- src/reflist.rt:62:9
 put-short-requires : tie.Need-put-short-requires
-put-short-requires c κs = ?
+put-short-requires c κs =
+    let so-far = (within-then (c .before .before .before .before .before .before .before .before .put-name .ensures) (c .before .before .before .put .ensures)) in
+    omega (arith, so-far .put .size, so-far .within, c .before .before .before .before .before .before .before .before .before .before .before .before .pre)
 
--- src/reflist.rt:63:25
 slice-aggregate-put-2 : tie.Need-slice-aggregate-put-2
 slice-aggregate-put-2 c = search needs
 
--- src/reflist.rt:63:9
 put-requires-2 : tie.Need-put-requires-2
-put-requires-2 c κs = ?
+put-requires-2 c κs =
+    let so-far = (both-within (within-then (c .before .before .before .before .before .before .before .before .before .before .before .before .before .put-name .ensures) (c .before .before .before .before .before .before .before .before .put .ensures)) (c .before .before .before .before .put-short .ensures)) in
+    omega (arith, so-far .put .size, so-far .within, c .before .before .before .before .before .before .before .before .before .before .before .before .before .before .before .before .before .pre)
 
--- src/reflist.rt:64:9
 put-target-requires : tie.Need-put-target-requires
-put-target-requires c κs = ?
+put-target-requires c κs =
+    let so-far = (within-then (both-within (within-then (c .before .before .before .before .before .before .before .before .before .before .before .before .before .before .before .before .before .put-name .ensures) (c .before .before .before .before .before .before .before .before .before .before .before .before .put .ensures)) (c .before .before .before .before .before .before .before .before .put-short .ensures)) (c .before .before .before .put2 .ensures)) in
+    omega (arith, so-far .put .size, so-far .within, c .before .before .before .before .before .before .before .before .before .before .before .before .before .before .before .before .before .before .before .before .before .pre)
 
--- src/reflist.rt:65:17
 slice-aggregate-put-3 : tie.Need-slice-aggregate-put-3
 slice-aggregate-put-3 c = search needs
 
--- src/reflist.rt:65:5
 put-requires-3 : tie.Need-put-requires-3
-put-requires-3 c κs = ?
+put-requires-3 c κs =
+    let so-far = (both-within (within-then (both-within (within-then (c .before .before .before .before .before .before .before .before .before .before .before .before .before .before .before .before .before .before .before .before .before .before .put-name .ensures) (c .before .before .before .before .before .before .before .before .before .before .before .before .before .before .before .before .before .put .ensures)) (c .before .before .before .before .before .before .before .before .before .before .before .before .before .put-short .ensures)) (c .before .before .before .before .before .before .before .before .put2 .ensures)) (c .before .before .before .before .put-target .ensures)) in
+    omega (arith, so-far .put .size, so-far .within, c .before .before .before .before .before .before .before .before .before .before .before .before .before .before .before .before .before .before .before .before .before .before .before .before .before .before .pre)
 
--- src/reflist.rt:55:1
 same-length : tie.Need-same-length
 same-length c = search needs
 
--- src/reflist.rt:55:1
 returns : tie.Need-returns
-returns c = ?
+unfolding entry-line
+returns c = within-then (both-within (within-then (both-within (within-then (c .before .before .before .before .before .before .before .before .before .before .before .before .before .before .before .before .before .before .before .before .before .before .before .before .before .put-name .ensures) (c .before .before .before .before .before .before .before .before .before .before .before .before .before .before .before .before .before .before .before .before .put .ensures)) (c .before .before .before .before .before .before .before .before .before .before .before .before .before .before .before .before .put-short .ensures)) (c .before .before .before .before .before .before .before .before .before .before .before .put2 .ensures)) (c .before .before .before .before .before .before .before .put-target .ensures)) (c .before .before .put3 .ensures)
 
 pub put-entry-spec : {M : Type 1} → statement M
 put-entry-spec =

@@ -1,52 +1,38 @@
+use Rattle.text.proofs.Puts.{wider, then-within}
 use native.Mathlib.Omega.{arith}
 use borrow.Author.Needs.{needs}
 use Rattle.text.proofs.reflist.put_target.Statement.{statement}
 use Rattle.text.proofs.reflist.put_target.Tie as tie
-use Rattle.text.proofs.reflist.put_target.Reads as reads
-use Rattle.text.proofs.reflist.put_target.Lts as lts
-use Rattle.text.proofs.buffer.put.Reads as put-reads
-use Rattle.text.proofs.buffer.put_id.Reads as put-id-reads
-use Rattle.text.proofs.buffer.put_name.Reads as put-name-reads
 
--- src/reflist.rt:35:17
 enum-told : tie.Need-enum-told
 enum-told c = search needs
 
--- src/reflist.rt:36:13
 put-id-requires : tie.Need-put-id-requires
 put-id-requires c κs = search needs
 
--- src/reflist.rt:36:13
 same-length : tie.Need-same-length
 same-length c = search needs
 
--- src/reflist.rt:36:13
 returns : tie.Need-returns
-returns c = ?
+returns c = rw (c .before .before .before .before .before .enum-told .given .1) (wider (c .before .before .put-id .ensures) (omega arith))
 
--- src/reflist.rt:39:25
 enum-told-2 : tie.Need-enum-told-2
 enum-told-2 c = search needs
 
--- src/reflist.rt:39:34
 slice-aggregate-put : tie.Need-slice-aggregate-put
 slice-aggregate-put c = search needs
 
--- src/reflist.rt:39:17
 put-requires : tie.Need-put-requires
 put-requires c κs = search needs
 
--- src/reflist.rt:41:13
 put-name-requires : tie.Need-put-name-requires
 put-name-requires c κs = search needs
 
--- src/reflist.rt:41:13
 same-length-2 : tie.Need-same-length-2
 same-length-2 c = search needs
 
--- src/reflist.rt:41:13
 returns-2 : tie.Need-returns-2
-returns-2 c = ?
+returns-2 c = rw (c .before .before .before .before .before .before .before .before .before .before .enum-told2 .given .1) (then-within (c .before .before .before .before .before .before .before .put .ensures) (c .before .before .put-name .ensures))
 
 pub put-target-spec : {M : Type 1} → statement M
 put-target-spec =
