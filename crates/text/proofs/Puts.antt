@@ -1,8 +1,8 @@
 -- Pieces put into a buffer one behind the other.
-use mathlib.Core.Path.{_≡_, ap, _∙_}
+use mathlib.Core.Path.{_≡_, refl, ap, sym, _∙_}
 use Prim.Native.Nat.{ℕ, _+_, _≤_}
 use native.Mathlib.Omega.{arith}
-use mathlib.Core.List.{_++_, append-assoc}
+use mathlib.Core.List.{[], _++_, append-assoc, append-nil}
 use lib.ListN.{length, take, length-take, length-drop, length-append}
 use Rattle.names.specs.Bytes.{Bytes}
 use Rattle.names.specs.Name.{longest}
@@ -41,6 +41,9 @@ within-then p q = record { put = put-then (p .put) q; within = omega (arith, p .
 
 pub both-within : {b m a s t : Bytes} {at i j most more : ℕ} → PutWithin most b at s m i → PutWithin more m i t a j → PutWithin (most + more) b at (s ++ t) a j
 both-within p q = record { put = put-then (p .put) (q .put); within = omega (arith, p .within, q .within) }
+
+pub put-nothing : (b : Bytes) (at most : ℕ) → PutWithin most b at [] b at
+put-nothing b at most = record { put = record { text = sym (append-nil (take at b)); ends = omega arith; size = refl }; within = omega arith }
 
 -- a short name is no longer than the name
 pub short-small : (s n : Bytes) → s ≡ short-name n → length n ≤ longest → length s ≤ longest

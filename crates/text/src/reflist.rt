@@ -78,8 +78,18 @@ fn put_numbered(out: &mut [u8], at: usize, word: &[u8], n: u64) -> usize
     put(out, b, b"\n")
 }
 
+// An error line: the numbers of refusals are small.
+fn put_error(out: &mut [u8], at: usize, number: u64) -> usize
+    requires { ⌜ number ≤ 15 ⌝ }
+    requires { ⌜ at + longest-line ≤ length (now out) ⌝ }
+    ensures { λ r. ⌜ PutWithin longest-line (now (out .entry)) at (error-line number) (now (out .exit)) r ⌝ }
+{
+    put_numbered(out, at, b"!\t", number)
+}
+
 fn number_of(why: Reason) -> u64
     ensures { λ r. ⌜ r ≡ reason-number why ⌝ }
+    ensures { λ r. ⌜ r ≤ 15 ⌝ }
 {
     match why {
         Reason::Damaged => 6,
@@ -98,16 +108,16 @@ fn put_answer(out: &mut [u8], at: usize, a: Listed, r: Reference) -> usize
 {
     match a {
         Listed::NotWhole => {
-            return put_numbered(out, at, b"!\t", 1);
+            return put_error(out, at, 1);
         }
         Listed::TooMany => {
-            return put_numbered(out, at, b"!\t", 2);
+            return put_error(out, at, 2);
         }
         Listed::Entry => {
             return put_entry(out, at, r);
         }
         Listed::Refused(why) => {
-            return put_numbered(out, at, b"!\t", number_of(why));
+            return put_error(out, at, number_of(why));
         }
         Listed::Ended => {
             return at;

@@ -1,113 +1,77 @@
+use Rattle.text.specs.Promises.{longest-line}
+use Rattle.text.proofs.Puts.{put-nothing}
 use native.Mathlib.Omega.{arith}
 use borrow.Author.Needs.{needs}
 use Rattle.text.proofs.reflist.put_answer.Statement.{statement}
 use Rattle.text.proofs.reflist.put_answer.Tie as tie
-use Rattle.text.proofs.reflist.put_answer.Reads as reads
-use Rattle.text.proofs.reflist.put_answer.Lts as lts
-use Rattle.text.proofs.reflist.number_of.Reads as number-of-reads
-use Rattle.text.proofs.reflist.put_entry.Reads as put-entry-reads
-use Rattle.text.proofs.reflist.put_numbered.Reads as put-numbered-reads
 
--- src/reflist.rt:100:33
 enum-told : tie.Need-enum-told
 enum-told c = search needs
 
--- src/reflist.rt:100:42
-slice-aggregate-put-numbered : tie.Need-slice-aggregate-put-numbered
-slice-aggregate-put-numbered c = search needs
+put-error-requires : tie.Need-put-error-requires
+put-error-requires c κs = search needs
 
--- src/reflist.rt:100:13
-put-numbered-requires : tie.Need-put-numbered-requires
-put-numbered-requires c κs = ?
-
--- src/reflist.rt:100:13
 same-length : tie.Need-same-length
 same-length c = search needs
 
--- src/reflist.rt:100:13
 returns : tie.Need-returns
-returns c = ?
+returns c = rw (c .before .before .before .before .enum-told .given .1) (c .before .before .put-error .ensures)
 
--- src/reflist.rt:103:33
 enum-told-2 : tie.Need-enum-told-2
 enum-told-2 c = search needs
 
--- src/reflist.rt:103:42
-slice-aggregate-put-numbered-2 : tie.Need-slice-aggregate-put-numbered-2
-slice-aggregate-put-numbered-2 c = search needs
+put-error-requires-2 : tie.Need-put-error-requires-2
+put-error-requires-2 c κs = search needs
 
--- src/reflist.rt:103:13
-put-numbered-requires-2 : tie.Need-put-numbered-requires-2
-put-numbered-requires-2 c κs = ?
-
--- src/reflist.rt:103:13
 same-length-2 : tie.Need-same-length-2
 same-length-2 c = search needs
 
--- src/reflist.rt:103:13
 returns-2 : tie.Need-returns-2
-returns-2 c = ?
+returns-2 c = rw (c .before .before .before .before .enum-told2 .given .1) (c .before .before .put-error2 .ensures)
 
--- src/reflist.rt:106:30
 enum-told-3 : tie.Need-enum-told-3
 enum-told-3 c = search needs
 
--- src/reflist.rt:106:13
 put-entry-requires : tie.Need-put-entry-requires
 put-entry-requires c κs = search needs
 
--- src/reflist.rt:106:13
 same-length-3 : tie.Need-same-length-3
 same-length-3 c = search needs
 
--- src/reflist.rt:106:13
 returns-3 : tie.Need-returns-3
-returns-3 c = ?
+returns-3 c = rw (c .before .before .before .before .enum-told3 .given .1) (c .before .before .put-entry .ensures)
 
--- src/reflist.rt:108:25
 enum-known-a : tie.Need-enum-known-a
 enum-known-a c = search needs
 
--- src/reflist.rt:109:42
-slice-aggregate-put-numbered-3 : tie.Need-slice-aggregate-put-numbered-3
-slice-aggregate-put-numbered-3 c = search needs
-
--- src/reflist.rt:109:50
 number-of-requires : tie.Need-number-of-requires
 number-of-requires c κs = search needs
 
--- src/reflist.rt:109:13
-put-numbered-requires-3 : tie.Need-put-numbered-requires-3
-put-numbered-requires-3 c κs = ?
+put-error-requires-3 : tie.Need-put-error-requires-3
+put-error-requires-3 c κs = search needs
 
--- src/reflist.rt:109:13
 same-length-4 : tie.Need-same-length-4
 same-length-4 c = search needs
 
--- src/reflist.rt:109:13
 returns-4 : tie.Need-returns-4
-returns-4 c = ?
+returns-4 c = rw (c .before .before .before .before .before .before .a .given .1, ← c .before .before .before .number-of .ensures .0) (c .before .before .put-error3 .ensures)
 
--- src/reflist.rt:112:13
 enum-told-4 : tie.Need-enum-told-4
 enum-told-4 c = search needs
 
--- src/reflist.rt:112:13
 returns-5 : tie.Need-returns-5
-returns-5 c = ?
+returns-5 c = rw (c .enum-told4 .given .1) (put-nothing (c .before .before .before .args .out .now) (c .before .before .before .args .at) longest-line)
 
 pub put-answer-spec : {M : Type 1} → statement M
 put-answer-spec =
     tie.close
     (tie.spec
     enum-told
-    slice-aggregate-put-numbered
-    put-numbered-requires
+    put-error-requires
     same-length
     returns
     enum-told-2
-    slice-aggregate-put-numbered-2
-    put-numbered-requires-2
+    put-error-requires-2
     same-length-2
     returns-2
     enum-told-3
@@ -115,9 +79,8 @@ put-answer-spec =
     same-length-3
     returns-3
     enum-known-a
-    slice-aggregate-put-numbered-3
     number-of-requires
-    put-numbered-requires-3
+    put-error-requires-3
     same-length-4
     returns-4
     enum-told-4
