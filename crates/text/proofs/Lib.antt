@@ -1,2 +1,4 @@
+-- What the functions' proofs cite.
 pub mod Puts
 pub mod Decimal
+pub mod Runs

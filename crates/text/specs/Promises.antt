@@ -1,10 +1,14 @@
 -- What private functions promise.
 use mathlib.Core.Path.{_≡_}
-use Prim.Native.Nat.{ℕ, _+_, _≤_}
-use mathlib.Core.List.{_++_}
+use Prim.Native.Nat.{ℕ, _+_, _*_, _≤_}
+use mathlib.Core.List.{List, _++_}
 use lib.ListN.{length, take}
 use Rattle.names.specs.Bytes.{Bytes}
 use Rattle.names.specs.Name.{longest}
+use Rattle.refs.specs.Answer.{Answer}
+use Rattle.refs.specs.declared.overlay_iter.Listed.{Listed}
+use Rattle.refs.specs.declared.overlay_iter.Listed.the-variants as listed
+use Rattle.text.specs.Reflist.{most-listed, answer-lines, line-count}
 
 -- s was put into a buffer behind its first `at` bytes, and ends at r
 pub record Put (before : Bytes) (at : ℕ) (s after : Bytes) (r : ℕ) : Type 0 where
@@ -24,3 +28,23 @@ longest-target = 3 + longest
 -- the longest line: two names, a target, two tabs and the line's end
 abbrev pub longest-line : ℕ
 longest-line = longest + 1 + longest + 1 + longest-target + 1
+
+-- the most steps that hand out something: one for each block of three files
+abbrev pub most-steps : ℕ
+most-steps = 3 * most-listed
+
+-- the number of lines of a step's answer as the code tells it
+abbrev pub listed-weight : Listed → ℕ
+listed-weight listed.NotWhole = 1
+listed-weight listed.TooMany = 1
+listed-weight listed.Entry = 1
+listed-weight (listed.Refused why) = 1
+listed-weight listed.Ended = 0
+
+-- the lines of the answers of so many steps were put behind the first `at` bytes, end there, and are so many
+pub record PutLines (before : Bytes) (at steps : ℕ) (l : List Answer) (after : Bytes) (end count : ℕ) : Type 0 where
+  pub text : take end after ≡ take at before ++ answer-lines l
+  pub counted : count ≡ line-count l
+  pub size : length after ≡ length before
+  pub ends-within : end ≤ at + steps * longest-line
+  pub count-within : count ≤ steps

@@ -64,11 +64,24 @@ end-line n = bytes "end" ++ tab ++ decimal n ++ newline
 unfoldable pub block-total : Snapshot → ℕ
 block-total s = length (s .worktree) / block-size + length (or-empty (s .common)) / block-size + length (s .packed) / block-size
 
+-- rows 1 and 2 with the program's own limit: "(over 40 blocks: 2)"
+unfoldable pub files-check : ℕ → ℕ → ℕ → Check
+files-check w c p = sizes-within most-listed w c p
+
 -- "After a refusal 1 or 2 one error line follows it and nothing more; otherwise the last line is `end`"
 abbrev pub below-heading : Check → List Answer → Bytes
 below-heading (some k) l = error-line k
 below-heading none l = answer-lines l ++ end-line (line-count l)
 
--- what `reflist` writes of files of the sizes w, c and p, 0 where one is missing, which hold the snapshot s
-unfoldable pub report : ℕ → ℕ → ℕ → ℕ → Snapshot → Bytes
-report width w c p s = heading ++ below-heading (sizes-within most-listed w c p) (answers-of (listing width s none (block-total s)))
+-- what `reflist` writes of the files' bytes: "A missing file is an absent region, or an empty worktree."
+unfoldable pub report : ℕ → Snapshot → Bytes
+report width s =
+    heading
+    ++ below-heading
+    (files-check (length (s .worktree)) (length (or-empty (s .common))) (length (s .packed)))
+    (answers-of (listing width s none (block-total s)))
+
+-- the same of files that are too large to be read, from their sizes; nothing where the sizes are right
+abbrev pub size-report : Check → Bytes
+size-report none = []
+size-report (some k) = heading ++ error-line k

@@ -7,26 +7,30 @@ use names::fullname::short_name;
 use names::name::Name;
 use names::name::lend;
 use refs::overlay_iter::Listed;
+use refs::overlay_iter::Listing;
+use refs::overlay_iter::step;
 use refs::raw::Kind;
 use refs::raw::Reason;
 use refs::raw::Reference;
 ghost use mathlib.Core.Path.{_≡_};
-ghost use Prim.Native.Nat.{_+_, _≤_};
+ghost use Prim.Native.Nat.{_+_, _*_, _≤_};
 ghost use mathlib.Core.List.{_++_};
 ghost use lib.ListN.{length};
 ghost use Rattle.names.specs.Name.{longest};
 ghost use Rattle.names.specs.Category.{short-name};
 ghost use Rattle.names.specs.Means.{content};
-ghost use Rattle.refs.specs.Means.{reason-number, reference-of, listed-with};
+ghost use Rattle.blocks.specs.Means.{id-width, if-there, snapshot-of};
+ghost use Rattle.refs.specs.Run.{run};
+ghost use Rattle.refs.specs.Means.{reason-number, reference-of, state-of, listed-with};
 ghost use Rattle.text.specs.Text.{newline, decimal};
-ghost use Rattle.text.specs.Reflist.{most-listed, target-field, entry-line, error-line, answer-line, end-line};
-ghost use Rattle.text.specs.Promises.{Put, PutWithin, longest-target, longest-line};
+ghost use Rattle.text.specs.Reflist.{target-field, entry-line, error-line, answer-line};
+ghost use Rattle.text.specs.Promises.{Put, PutWithin, listed-weight, PutLines, longest-target, longest-line, most-steps};
 
 // The most blocks that a file may have.
 pub const MOST_LISTED: u32 = 40;
 
-// The longest line: two names and a target of 250 bytes, `-> `, two tabs and the line's end.
-const LONGEST_LINE: usize = 756;
+// Enough for a heading, 120 lines of 756 bytes and the end.
+pub const REPORT_SIZE: usize = 98304;
 
 fn put_target(out: &mut [u8], at: usize, r: Reference) -> usize
     requires { ⌜ at + longest-target ≤ length (now out) ⌝ }
@@ -123,4 +127,92 @@ fn put_answer(out: &mut [u8], at: usize, a: Listed, r: Reference) -> usize
             return at;
         }
     }
+}
+
+// 1 where an answer has a line, else 0.
+fn weight(a: Listed) -> u64
+    ensures { λ n. ⌜ n ≡ listed-weight a ⌝ }
+{
+    match a {
+        Listed::NotWhole => 1,
+        Listed::TooMany => 1,
+        Listed::Entry => 1,
+        Listed::Refused(_) => 1,
+        Listed::Ended => 0,
+    }
+}
+
+// Where lines end in the buffer, and how many they are.
+struct Lines {
+    end: usize,
+    count: u64,
+}
+
+// The lines of so many steps from a state.
+fn put_lines<'a>(
+    out: &mut [u8],
+    at: usize,
+    state: Listing,
+    steps: usize,
+    worktree: &'a [u8],
+    common: &'a [u8],
+    has_common: bool,
+    packed: &'a [u8],
+) -> Lines
+    requires { ⌜ steps ≤ most-steps ⌝ }
+    requires { ⌜ at + steps * longest-line ≤ length (now out) ⌝ }
+    ensures { λ r. ⌜ PutLines (now (out .entry)) at steps (run id-width (snapshot-of (now (worktree .entry)) (if-there «has_common» (now (common .entry))) (now (packed .entry))) steps (state-of state) .answers) (now (out .exit)) (r .end) (r .count) ⌝ }
+{
+    let mut waiting = state;
+    let mut end = at;
+    let mut count: u64 = 0;
+    let mut i: usize = 0;
+    while i < steps {
+        let s = step(waiting, worktree, common, has_common, packed);
+        let answer = s.answer;
+        let reference = s.reference;
+        end = put_answer(out, end, answer, reference);
+        count += weight(answer);
+        waiting = s.next;
+        i += 1;
+    }
+    Lines { end, count }
+}
+
+fn is_opened(o: Opening) -> bool
+    ensures { λ r. ⌜ r ≡ is-opened o ⌝ }
+{
+    match o {
+        Opening::Opened => true,
+        Opening::NotWhole => false,
+        Opening::TooMany => false,
+        Opening::Refused(_) => false,
+    }
+}
+
+// The lines of a listing without a namespace and the end, of regions of at most 40 blocks.
+fn put_listing<'a>(
+    out: &mut [u8],
+    at: usize,
+    worktree: &'a [u8],
+    common: &'a [u8],
+    has_common: bool,
+    packed: &'a [u8],
+) -> usize
+    requires { ⌜ block-total (snapshot-of (now worktree) (if-there «has_common» (now common)) (now packed)) ≤ most-steps ⌝ }
+    requires { ⌜ at + longest-listing ≤ length (now out) ⌝ }
+    ensures { λ r. ⌜ Put (now (out .entry)) at (listing-text (snapshot-of (now (worktree .entry)) (if-there «has_common» (now (common .entry))) (now (packed .entry)))) (now (out .exit)) r ⌝ }
+{
+    let o = open(worktree, common, has_common, packed, b"", false);
+    let opening = o.opening;
+    if !is_opened(opening) {
+        return put_numbered(out, at, b"end\t", 0);
+    }
+    let state = o.state;
+    let there = or_empty(common, has_common);
+    let steps = worktree.len() / BLOCK_SIZE + there.len() / BLOCK_SIZE + packed.len() / BLOCK_SIZE;
+    let lines = put_lines(out, at, state, steps, worktree, common, has_common, packed);
+    let end = lines.end;
+    let count = lines.count;
+    put_numbered(out, end, b"end\t", count)
 }
