@@ -27,6 +27,17 @@ pub enum Refusal {
     Unsupported,
 }
 
+// The number of a refusal in document 01's table.
+pub fn refusal_number(why: Refusal) -> u32
+    ensures { λ r. ⌜ r ≡ refusal-number why ⌝ }
+{
+    match why {
+        Refusal::Unreadable => 10,
+        Refusal::Incomplete => 11,
+        Refusal::Unsupported => 12,
+    }
+}
+
 pub enum TargetKind {
     Object,
     Symbolic,

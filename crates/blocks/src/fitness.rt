@@ -84,6 +84,17 @@ pub enum Reason {
     NotAbove,
 }
 
+// The number of a reason in document 01's table.
+pub fn reason_number(why: Reason) -> u32
+    ensures { λ r. ⌜ r ≡ reason-number why ⌝ }
+{
+    match why {
+        Reason::Damaged => 6,
+        Reason::ErrorKind => 7,
+        Reason::NotAbove => 8,
+    }
+}
+
 // Whether regions are fit for search, or the first block that is not.
 pub enum Verdict {
     Fit,

@@ -1,10 +1,10 @@
 -- Numbers of calls, and counts of runs.
 use mathlib.Core.Path.{_≡_, refl}
 use Prim.Native.Nat.{ℕ, suc, _+_, _-_, _<_, _≤_}
-use mathlib.Core.Bool.{true, false}
+use mathlib.Core.Bool.{true, false, not}
 use mathlib.Core.Option.{none}
 use native.Mathlib.Omega.{arith}
-use Rattle.blocks.specs.Snapshot.{Snapshot}
+use Rattle.blocks.specs.Snapshot.{Snapshot, is-there}
 use Rattle.blocks.specs.Means.{id-width}
 use Rattle.names.specs.Check.{checked}
 use Rattle.refs.specs.Answer.{Reference}
@@ -19,7 +19,7 @@ use Rattle.refs.specs.declared.check.Gate.the-variants as gate
 use Rattle.refs.specs.declared.overlay_iter.Opening.{Opening}
 use Rattle.refs.specs.declared.overlay_iter.Opening.the-variants as opening
 use Rattle.refs.specs.declared.overlay_iter.Opened.{Opened}
-use Rattle.capi.specs.Numbers.{result-number, answer-number, find-number, gate-number, answer-weight, listed-weight, entry-count, listed-count, is-opened}
+use Rattle.capi.specs.Numbers.{result-number, answer-number, find-number, gate-number, answer-weight, listed-weight, entry-count, listed-count}
 
 -- the number of a gated answer
 pub gated-number : {A : Type 0} (f : A → ℕ) (g : Gate) (a : A) → gate-number g (f a) ≡ result-number f (gated g a)
@@ -84,23 +84,23 @@ all-steps s n i k st h =
     omega (arith, none-more)
 
 -- the opening
-pub not-opened-counts : (s : Snapshot) (n : ℕ) (o : Opened) → opened o ≡ open-listing s none → is-opened (o .opening) ≡ false
+pub not-opened-counts : (s : Snapshot) (n : ℕ) (o : Opened) → opened o ≡ open-listing s none → not (is-there (opening-check (o .opening))) ≡ false
     → 0 ≡ listed-count (listing id-width s none n)
 unfolding listing entry-count
 not-opened-counts s n o e h = rw (← e) (go (o .opening) h)
   where
-    go : (x : Opening) → is-opened x ≡ false → 0 ≡ listed-count (run-opened id-width s n (checked (opening-check x) (state-of (o .state))))
+    go : (x : Opening) → not (is-there (opening-check x)) ≡ false → 0 ≡ listed-count (run-opened id-width s n (checked (opening-check x) (state-of (o .state))))
     go opening.Opened z = cc
     go opening.NotWhole z = refl
     go opening.TooMany z = refl
     go (opening.Refused why) z = refl
 
-pub opened-counts : (s : Snapshot) (n : ℕ) (o : Opened) → opened o ≡ open-listing s none → is-opened (o .opening) ≡ true
+pub opened-counts : (s : Snapshot) (n : ℕ) (o : Opened) → opened o ≡ open-listing s none → not (is-there (opening-check (o .opening))) ≡ true
     → counted s n (state-of (o .state)) ≡ listed-count (listing id-width s none n)
 unfolding listing entry-count
 opened-counts s n o e h = rw (← e) (go (o .opening) h)
   where
-    go : (x : Opening) → is-opened x ≡ true → counted s n (state-of (o .state)) ≡ listed-count (run-opened id-width s n (checked (opening-check x) (state-of (o .state))))
+    go : (x : Opening) → not (is-there (opening-check x)) ≡ true → counted s n (state-of (o .state)) ≡ listed-count (run-opened id-width s n (checked (opening-check x) (state-of (o .state))))
     go opening.Opened z = refl
     go opening.NotWhole z = cc
     go opening.TooMany z = cc

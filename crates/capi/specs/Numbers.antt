@@ -14,8 +14,6 @@ use Rattle.refs.specs.Follow.{Followed, not-there, reached, stopped, barred}
 use Rattle.refs.specs.Run.{Run, answers-of}
 use Rattle.refs.specs.declared.check.Gate.{Gate}
 use Rattle.refs.specs.declared.check.Gate.the-variants as gate
-use Rattle.refs.specs.declared.overlay_iter.Opening.{Opening}
-use Rattle.refs.specs.declared.overlay_iter.Opening.the-variants as opening
 use Rattle.refs.specs.declared.overlay_iter.Listed.{Listed}
 use Rattle.refs.specs.declared.overlay_iter.Listed.the-variants as listed
 
@@ -94,10 +92,3 @@ listed-weight listed.TooMany = 0
 listed-weight listed.Entry = 1
 listed-weight (listed.Refused why) = 0
 listed-weight listed.Ended = 0
-
--- the opening was not refused
-abbrev pub is-opened : Opening → Bool
-is-opened opening.Opened = true
-is-opened opening.NotWhole = false
-is-opened opening.TooMany = false
-is-opened (opening.Refused why) = false

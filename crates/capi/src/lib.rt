@@ -2,25 +2,15 @@
 ghost use mathlib.Core.Path.{_≡_};
 ghost use Rattle.blocks.specs.Entry.{entries};
 ghost use Rattle.blocks.specs.Fitness.{first-flaw};
-ghost use Rattle.blocks.specs.Means.{id-width, reason-number, flaw-of};
+ghost use Rattle.blocks.specs.Means.{id-width, flaw-of};
 ghost use Rattle.capi.specs.Numbers.{region-for, flaw-number};
 use blocks::block::Region;
-use blocks::fitness::Reason;
 use blocks::fitness::Verdict;
+use blocks::fitness::reason_number;
 use blocks::fitness::region_fitness;
 
 pub mod listing;
 pub mod search;
-
-pub(crate) fn number_of(reason: Reason) -> u32
-    ensures { λ r. ⌜ r ≡ reason-number reason ⌝ }
-{
-    match reason {
-        Reason::Damaged => 6,
-        Reason::ErrorKind => 7,
-        Reason::NotAbove => 8,
-    }
-}
 
 fn number(v: Verdict) -> u32
     ensures { λ r. ⌜ r ≡ flaw-number (flaw-of v) ⌝ }
@@ -31,7 +21,7 @@ fn number(v: Verdict) -> u32
             reason,
             region: _,
             block: _,
-        } => number_of(reason),
+        } => reason_number(reason),
     }
 }
 

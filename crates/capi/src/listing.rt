@@ -1,7 +1,7 @@
 // Listing.
 use refs::overlay_iter::Listed;
 use refs::overlay_iter::Listing;
-use refs::overlay_iter::Opening;
+use refs::overlay_iter::is_opened;
 use refs::overlay_iter::open;
 use refs::overlay_iter::step;
 ghost use mathlib.Core.Path.{_≡_};
@@ -9,7 +9,7 @@ ghost use mathlib.Core.Option.{none};
 ghost use Rattle.blocks.specs.Means.{id-width, if-there, snapshot-of};
 ghost use Rattle.refs.specs.Run.{run, listing};
 ghost use Rattle.refs.specs.Means.{state-of};
-ghost use Rattle.capi.specs.Numbers.{entry-count, listed-count, listed-weight, is-opened};
+ghost use Rattle.capi.specs.Numbers.{entry-count, listed-count, listed-weight};
 
 // 1 where the answer is a reference, else 0.
 fn weight(a: Listed) -> usize
@@ -21,17 +21,6 @@ fn weight(a: Listed) -> usize
         Listed::Entry => 1,
         Listed::Refused(_) => 0,
         Listed::Ended => 0,
-    }
-}
-
-fn is_opened(o: Opening) -> bool
-    ensures { λ r. ⌜ r ≡ is-opened o ⌝ }
-{
-    match o {
-        Opening::Opened => true,
-        Opening::NotWhole => false,
-        Opening::TooMany => false,
-        Opening::Refused(_) => false,
     }
 }
 

@@ -1,32 +1,21 @@
 // Search and following.
-use crate::number_of;
-use names::name::Refusal;
+use blocks::fitness;
+use names::name::refusal_number;
 use refs::check::Gate;
 use refs::find::find;
 use refs::raw::Answered;
 use refs::raw::Outcome;
-use refs::raw::Reason;
+use refs::raw::reason_number;
 use refs::raw_ext::Ending;
-use refs::raw_ext::Stop;
 use refs::raw_ext::Trail;
 use refs::raw_ext::follow;
+use refs::raw_ext::stop_number;
 ghost use mathlib.Core.Path.{_≡_};
-ghost use Rattle.names.specs.Means.{number};
 ghost use Rattle.blocks.specs.Means.{id-width, if-there, snapshot-of};
 ghost use Rattle.refs.specs.Search.{find};
 ghost use Rattle.refs.specs.Follow.{follow};
-ghost use Rattle.refs.specs.Means.{reason-number, answered, stop-number, trail-of};
+ghost use Rattle.refs.specs.Means.{answered, trail-of};
 ghost use Rattle.capi.specs.Numbers.{gate-number, answer-number, followed-number, find-number, follow-number};
-
-fn refusal_number(why: Refusal) -> u32
-    ensures { λ r. ⌜ r ≡ number why ⌝ }
-{
-    match why {
-        Refusal::TooLong => 3,
-        Refusal::Malformed => 4,
-        Refusal::ExpansionTooLong => 5,
-    }
-}
 
 // The number of the check that turned a call away, else n.
 fn gate_number(gate: Gate, n: u32) -> u32
@@ -41,20 +30,7 @@ fn gate_number(gate: Gate, n: u32) -> u32
             reason,
             region: _,
             block: _,
-        } => number_of(reason),
-    }
-}
-
-fn entry_number(why: Reason) -> u32
-    ensures { λ r. ⌜ r ≡ reason-number why ⌝ }
-{
-    match why {
-        Reason::Damaged => 6,
-        Reason::ErrorKind => 7,
-        Reason::Unread => 9,
-        Reason::Unreadable => 10,
-        Reason::Incomplete => 11,
-        Reason::Unsupported => 12,
+        } => fitness::reason_number(reason),
     }
 }
 
@@ -65,17 +41,7 @@ fn answer_number(a: Answered) -> u32
     match outcome {
         Outcome::Nothing => 100,
         Outcome::Found => 0,
-        Outcome::Refused(why) => entry_number(why),
-    }
-}
-
-fn stop_number(why: Stop) -> u32
-    ensures { λ r. ⌜ r ≡ stop-number why ⌝ }
-{
-    match why {
-        Stop::NotFound => 13,
-        Stop::Cycle => 14,
-        Stop::TooDeep => 15,
+        Outcome::Refused(why) => reason_number(why),
     }
 }
 
@@ -87,7 +53,7 @@ fn trail_number(t: Trail) -> u32
         Ending::NotThere => 100,
         Ending::Reached => 0,
         Ending::Stopped(why) => stop_number(why),
-        Ending::Refused(why) => entry_number(why),
+        Ending::Refused(why) => reason_number(why),
     }
 }
 

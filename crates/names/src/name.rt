@@ -12,7 +12,7 @@ ghost use Rattle.names.specs.Check.{checked};
 ghost use Rattle.names.specs.Name.{longest, pseudo-byte, is-pseudo, looks-full};
 ghost use Rattle.names.specs.Candidates.{full-name};
 ghost use Rattle.names.specs.Namespace.{names-check};
-ghost use Rattle.names.specs.Means.{held, content, SizeOf, made-name, if-fits, checked-partial};
+ghost use Rattle.names.specs.Means.{held, content, SizeOf, made-name, if-fits, number, checked-partial};
 
 // The longest name.
 pub const LONGEST: usize = 250;
@@ -36,6 +36,17 @@ pub enum Refusal {
     TooLong,
     Malformed,
     ExpansionTooLong,
+}
+
+// The number of a refusal in document 01's table.
+pub fn refusal_number(why: Refusal) -> u32
+    ensures { λ r. ⌜ r ≡ number why ⌝ }
+{
+    match why {
+        Refusal::TooLong => 3,
+        Refusal::Malformed => 4,
+        Refusal::ExpansionTooLong => 5,
+    }
 }
 
 pub enum Verdict {

@@ -1,17 +1,19 @@
 // The listing (overlay_iter.rs): loose and packed entries as one run, ordered by name.
 ghost use mathlib.Core.Path.{_≡_};
 ghost use mathlib.Core.Option.{none};
+ghost use mathlib.Core.Bool.{not};
 ghost use Prim.Native.Nat.{suc, _<_};
 ghost use Rattle.names.specs.Bytes.{starts-with};
 ghost use Rattle.names.specs.Check.{checked};
 ghost use Rattle.names.specs.Namespace.{expansion, names-check};
 ghost use Rattle.names.specs.Means.{content, ordering};
 ghost use Rattle.blocks.specs.Entry.{entry, entries};
+ghost use Rattle.blocks.specs.Snapshot.{is-there};
 ghost use Rattle.blocks.specs.Means.{id-width, region-of, block-count, block-at, if-there, snapshot-of};
 ghost use Rattle.refs.specs.View.{scope, worktree-shows, common-shows};
 ghost use Rattle.refs.specs.Listing.{none-left, first-seen, peek};
 ghost use Rattle.refs.specs.Run.{start, open-listing, moved, step};
-ghost use Rattle.refs.specs.Means.{answered, reference-of, state-of, opened, listed-with, step-of};
+ghost use Rattle.refs.specs.Means.{answered, reference-of, state-of, opening-check, opened, listed-with, step-of};
 ghost use Rattle.refs.specs.ListPromises.{shows-in, seen-in, is-error, is-left, waiting-of, is-fault, is-name, part-of, not-above, LeastOf, PastOf, NameMove, ErrorMove, ChosenMove, answer-at, offered, offer-of, positions-of, Lists, Ends, moved-on, move-in};
 use crate::raw::Answered;
 use crate::raw::Outcome;
@@ -59,6 +61,17 @@ pub enum Opening {
     NotWhole,
     TooMany,
     Refused(Refusal),
+}
+
+pub fn is_opened(o: Opening) -> bool
+    ensures { λ r. ⌜ r ≡ not (is-there (opening-check o)) ⌝ }
+{
+    match o {
+        Opening::Opened => true,
+        Opening::NotWhole => false,
+        Opening::TooMany => false,
+        Opening::Refused(_) => false,
+    }
 }
 
 // An opening; the state counts where the listing was opened.

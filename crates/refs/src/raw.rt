@@ -49,6 +49,20 @@ pub enum Reason {
     Unsupported,
 }
 
+// The number of a reason in document 01's table.
+pub fn reason_number(why: Reason) -> u32
+    ensures { λ r. ⌜ r ≡ reason-number why ⌝ }
+{
+    match why {
+        Reason::Damaged => 6,
+        Reason::ErrorKind => 7,
+        Reason::Unread => 9,
+        Reason::Unreadable => 10,
+        Reason::Incomplete => 11,
+        Reason::Unsupported => 12,
+    }
+}
+
 pub enum Outcome {
     Nothing,
     Found,

@@ -22,7 +22,7 @@ ghost use Rattle.names.specs.Means.{content};
 ghost use Rattle.blocks.specs.Means.{id-width, if-there, snapshot-of};
 ghost use Rattle.refs.specs.Follow.{max-ref-depth, among, follow};
 ghost use Rattle.refs.specs.Promises.{FitRegions, AnswerTurn, TurnOf, followed-from, following-of};
-ghost use Rattle.refs.specs.Means.{reference-of, answered, gated, trail-of};
+ghost use Rattle.refs.specs.Means.{reference-of, answered, gated, stop-number, trail-of};
 
 // How many names may be seen.
 pub const MAX_REF_DEPTH: usize = 5;
@@ -32,6 +32,17 @@ pub enum Stop {
     NotFound,
     Cycle,
     TooDeep,
+}
+
+// The number of a stop in document 01's table.
+pub fn stop_number(why: Stop) -> u32
+    ensures { λ r. ⌜ r ≡ stop-number why ⌝ }
+{
+    match why {
+        Stop::NotFound => 13,
+        Stop::Cycle => 14,
+        Stop::TooDeep => 15,
+    }
 }
 
 // How following ends: the reference beside it is the last one reached, and holds the id where it is reached.

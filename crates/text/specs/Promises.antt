@@ -1,14 +1,18 @@
 -- What private functions promise.
 use mathlib.Core.Path.{_≡_}
-use Prim.Native.Nat.{ℕ, _+_, _*_, _≤_}
+use Prim.Native.Nat.{ℕ, suc, _+_, _*_, _≤_}
 use mathlib.Core.List.{List, _++_}
+use mathlib.Core.Option.{none}
 use lib.ListN.{length, take}
 use Rattle.names.specs.Bytes.{Bytes}
 use Rattle.names.specs.Name.{longest}
+use Rattle.blocks.specs.Snapshot.{Snapshot}
+use Rattle.blocks.specs.Means.{id-width}
 use Rattle.refs.specs.Answer.{Answer}
+use Rattle.refs.specs.Run.{listing, answers-of}
 use Rattle.refs.specs.declared.overlay_iter.Listed.{Listed}
 use Rattle.refs.specs.declared.overlay_iter.Listed.the-variants as listed
-use Rattle.text.specs.Reflist.{most-listed, answer-lines, line-count}
+use Rattle.text.specs.Reflist.{most-listed, answer-lines, line-count, block-total}
 
 -- s was put into a buffer behind its first `at` bytes, and ends at r
 pub record Put (before : Bytes) (at : ℕ) (s after : Bytes) (r : ℕ) : Type 0 where
@@ -33,6 +37,10 @@ longest-line = longest + 1 + longest + 1 + longest-target + 1
 abbrev pub most-steps : ℕ
 most-steps = 3 * most-listed
 
+-- the longest listing: its lines, and the end with their count
+abbrev pub longest-listing : ℕ
+longest-listing = most-steps * longest-line + 5 + suc most-steps
+
 -- the number of lines of a step's answer as the code tells it
 abbrev pub listed-weight : Listed → ℕ
 listed-weight listed.NotWhole = 1
@@ -48,3 +56,7 @@ pub record PutLines (before : Bytes) (at steps : ℕ) (l : List Answer) (after :
   pub size : length after ≡ length before
   pub ends-within : end ≤ at + steps * longest-line
   pub count-within : count ≤ steps
+
+-- the answers of a listing without a namespace, to its end
+abbrev pub listed-answers : Snapshot → List Answer
+listed-answers s = answers-of (listing id-width s none (block-total s))

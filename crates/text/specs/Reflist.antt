@@ -68,10 +68,14 @@ block-total s = length (s .worktree) / block-size + length (or-empty (s .common)
 unfoldable pub files-check : ℕ → ℕ → ℕ → Check
 files-check w c p = sizes-within most-listed w c p
 
+-- a line for each answer, and the end
+unfoldable pub listed-text : List Answer → Bytes
+listed-text l = answer-lines l ++ end-line (line-count l)
+
 -- "After a refusal 1 or 2 one error line follows it and nothing more; otherwise the last line is `end`"
 abbrev pub below-heading : Check → List Answer → Bytes
 below-heading (some k) l = error-line k
-below-heading none l = answer-lines l ++ end-line (line-count l)
+below-heading none l = listed-text l
 
 -- what `reflist` writes of the files' bytes: "A missing file is an absent region, or an empty worktree."
 unfoldable pub report : ℕ → Snapshot → Bytes

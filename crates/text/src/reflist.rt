@@ -8,10 +8,14 @@ use names::name::Name;
 use names::name::lend;
 use refs::overlay_iter::Listed;
 use refs::overlay_iter::Listing;
+use refs::overlay_iter::is_opened;
+use refs::overlay_iter::open;
 use refs::overlay_iter::step;
+use blocks::block::BLOCK_SIZE;
+use blocks::fitness::or_empty;
 use refs::raw::Kind;
-use refs::raw::Reason;
 use refs::raw::Reference;
+use refs::raw::reason_number;
 ghost use mathlib.Core.Path.{_≡_};
 ghost use Prim.Native.Nat.{_+_, _*_, _≤_};
 ghost use mathlib.Core.List.{_++_};
@@ -21,10 +25,10 @@ ghost use Rattle.names.specs.Category.{short-name};
 ghost use Rattle.names.specs.Means.{content};
 ghost use Rattle.blocks.specs.Means.{id-width, if-there, snapshot-of};
 ghost use Rattle.refs.specs.Run.{run};
-ghost use Rattle.refs.specs.Means.{reason-number, reference-of, state-of, listed-with};
+ghost use Rattle.refs.specs.Means.{reference-of, state-of, listed-with};
 ghost use Rattle.text.specs.Text.{newline, decimal};
-ghost use Rattle.text.specs.Reflist.{target-field, entry-line, error-line, answer-line};
-ghost use Rattle.text.specs.Promises.{Put, PutWithin, listed-weight, PutLines, longest-target, longest-line, most-steps};
+ghost use Rattle.text.specs.Reflist.{target-field, entry-line, error-line, answer-line, block-total, listed-text};
+ghost use Rattle.text.specs.Promises.{Put, PutWithin, listed-weight, PutLines, longest-target, longest-line, most-steps, longest-listing, listed-answers};
 
 // The most blocks that a file may have.
 pub const MOST_LISTED: u32 = 40;
@@ -83,26 +87,12 @@ fn put_numbered(out: &mut [u8], at: usize, word: &[u8], n: u64) -> usize
 }
 
 // An error line: the numbers of refusals are small.
-fn put_error(out: &mut [u8], at: usize, number: u64) -> usize
+fn put_error(out: &mut [u8], at: usize, number: u32) -> usize
     requires { ⌜ number ≤ 15 ⌝ }
     requires { ⌜ at + longest-line ≤ length (now out) ⌝ }
     ensures { λ r. ⌜ PutWithin longest-line (now (out .entry)) at (error-line number) (now (out .exit)) r ⌝ }
 {
-    put_numbered(out, at, b"!\t", number)
-}
-
-fn number_of(why: Reason) -> u64
-    ensures { λ r. ⌜ r ≡ reason-number why ⌝ }
-    ensures { λ r. ⌜ r ≤ 15 ⌝ }
-{
-    match why {
-        Reason::Damaged => 6,
-        Reason::ErrorKind => 7,
-        Reason::Unread => 9,
-        Reason::Unreadable => 10,
-        Reason::Incomplete => 11,
-        Reason::Unsupported => 12,
-    }
+    put_numbered(out, at, b"!\t", number as u64)
 }
 
 // What is written of a step's answer.
@@ -121,7 +111,7 @@ fn put_answer(out: &mut [u8], at: usize, a: Listed, r: Reference) -> usize
             return put_entry(out, at, r);
         }
         Listed::Refused(why) => {
-            return put_error(out, at, number_of(why));
+            return put_error(out, at, reason_number(why));
         }
         Listed::Ended => {
             return at;
@@ -179,17 +169,6 @@ fn put_lines<'a>(
     Lines { end, count }
 }
 
-fn is_opened(o: Opening) -> bool
-    ensures { λ r. ⌜ r ≡ is-opened o ⌝ }
-{
-    match o {
-        Opening::Opened => true,
-        Opening::NotWhole => false,
-        Opening::TooMany => false,
-        Opening::Refused(_) => false,
-    }
-}
-
 // The lines of a listing without a namespace and the end, of regions of at most 40 blocks.
 fn put_listing<'a>(
     out: &mut [u8],
@@ -201,7 +180,7 @@ fn put_listing<'a>(
 ) -> usize
     requires { ⌜ block-total (snapshot-of (now worktree) (if-there «has_common» (now common)) (now packed)) ≤ most-steps ⌝ }
     requires { ⌜ at + longest-listing ≤ length (now out) ⌝ }
-    ensures { λ r. ⌜ Put (now (out .entry)) at (listing-text (snapshot-of (now (worktree .entry)) (if-there «has_common» (now (common .entry))) (now (packed .entry)))) (now (out .exit)) r ⌝ }
+    ensures { λ r. ⌜ Put (now (out .entry)) at (listed-text (listed-answers (snapshot-of (now (worktree .entry)) (if-there «has_common» (now (common .entry))) (now (packed .entry))))) (now (out .exit)) r ⌝ }
 {
     let o = open(worktree, common, has_common, packed, b"", false);
     let opening = o.opening;

@@ -20,8 +20,8 @@ refusal-number-requires c κs = search needs
 enum-known-gate-2 : tie.Need-enum-known-gate-2
 enum-known-gate-2 c = search needs
 
-number-of-requires : tie.Need-number-of-requires
-number-of-requires c κs = search needs
+reason-number-requires : tie.Need-reason-number-requires
+reason-number-requires c κs = search needs
 
 returns : tie.Need-returns
 returns c = search needs
@@ -36,7 +36,7 @@ returns-4 : tie.Need-returns-4
 returns-4 c = search needs
 
 returns-5 : tie.Need-returns-5
-returns-5 c = rw (c .number-of .ensures, c .before .before .gate2 .given .1)
+returns-5 c = rw (c .reason-number .ensures, c .before .before .gate2 .given .1)
 
 pub gate-number-spec : {M : Type 1} → statement M
 gate-number-spec =
@@ -48,7 +48,7 @@ gate-number-spec =
     enum-known-gate
     refusal-number-requires
     enum-known-gate-2
-    number-of-requires
+    reason-number-requires
     returns
     returns-2
     returns-3
