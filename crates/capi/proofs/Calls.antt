@@ -6,19 +6,17 @@ use mathlib.Core.Option.{none}
 use native.Mathlib.Omega.{arith}
 use Rattle.blocks.specs.Snapshot.{Snapshot, is-there}
 use Rattle.blocks.specs.Means.{id-width}
-use Rattle.names.specs.Check.{checked}
 use Rattle.refs.specs.Answer.{Reference}
 use Rattle.refs.specs.Search.{Searched, Result, answers, turned-away, unfit}
-use Rattle.refs.specs.Run.{State, step, run, open-listing, listing, run-opened}
+use Rattle.refs.specs.Run.{State, step, run, open-listing, listing}
 use Rattle.refs.specs.Means.{gated, answer-only, state-of, opened, opening-check, listed-with, step-of, reference-of}
 use Rattle.refs.specs.declared.overlay_iter.Listed.{Listed}
 use Rattle.refs.specs.declared.overlay_iter.Listed.the-variants as listed
 use Rattle.refs.specs.declared.overlay_iter.Stepped.{Stepped}
 use Rattle.refs.specs.declared.check.Gate.{Gate}
 use Rattle.refs.specs.declared.check.Gate.the-variants as gate
-use Rattle.refs.specs.declared.overlay_iter.Opening.{Opening}
-use Rattle.refs.specs.declared.overlay_iter.Opening.the-variants as opening
 use Rattle.refs.specs.declared.overlay_iter.Opened.{Opened}
+use Rattle.refs.proofs.ListOpens.{not-opened-answers, opened-answers}
 use Rattle.capi.specs.Numbers.{result-number, answer-number, find-number, gate-number, answer-weight, listed-weight, entry-count, listed-count}
 
 -- the number of a gated answer
@@ -86,22 +84,9 @@ all-steps s n i k st h =
 -- the opening
 pub not-opened-counts : (s : Snapshot) (n : ℕ) (o : Opened) → opened o ≡ open-listing s none → not (is-there (opening-check (o .opening))) ≡ false
     → 0 ≡ listed-count (listing id-width s none n)
-unfolding listing entry-count
-not-opened-counts s n o e h = rw (← e) (go (o .opening) h)
-  where
-    go : (x : Opening) → not (is-there (opening-check x)) ≡ false → 0 ≡ listed-count (run-opened id-width s n (checked (opening-check x) (state-of (o .state))))
-    go opening.Opened z = cc
-    go opening.NotWhole z = refl
-    go opening.TooMany z = refl
-    go (opening.Refused why) z = refl
+unfolding entry-count
+not-opened-counts s n o e h = rw (not-opened-answers id-width s none n o e h)
 
 pub opened-counts : (s : Snapshot) (n : ℕ) (o : Opened) → opened o ≡ open-listing s none → not (is-there (opening-check (o .opening))) ≡ true
     → counted s n (state-of (o .state)) ≡ listed-count (listing id-width s none n)
-unfolding listing entry-count
-opened-counts s n o e h = rw (← e) (go (o .opening) h)
-  where
-    go : (x : Opening) → not (is-there (opening-check x)) ≡ true → counted s n (state-of (o .state)) ≡ listed-count (run-opened id-width s n (checked (opening-check x) (state-of (o .state))))
-    go opening.Opened z = refl
-    go opening.NotWhole z = cc
-    go opening.TooMany z = cc
-    go (opening.Refused why) z = cc
+opened-counts s n o e h = rw (opened-answers id-width s none n o e h)

@@ -1,8 +1,8 @@
 -- The opening: a namespace that is given or not, and its check.
-use mathlib.Core.Path.{_≡_, _∙_}
+use mathlib.Core.Path.{_≡_, refl, _∙_}
 use mathlib.Core.Bool.{Bool, true, false, not, true≢false, false≢true}
 use mathlib.Core.List.{[]}
-use mathlib.Core.Option.{none, some}
+use mathlib.Core.Option.{Option, none, some}
 use Prim.Native.Nat.{ℕ}
 use native.Mathlib.Omega.{arith}
 use Rattle.names.specs.Bytes.{Bytes}
@@ -10,7 +10,12 @@ use Rattle.names.specs.Check.{Check, gives, refuses, checked}
 use Rattle.names.specs.Namespace.{expand, expansion, names-check, expanded}
 use Rattle.names.proofs.Rows.{names-none, expanded-is}
 use Rattle.blocks.specs.Means.{if-there}
-use Rattle.refs.specs.Run.{start}
+use Rattle.blocks.specs.Snapshot.{Snapshot, is-there}
+use Rattle.refs.specs.Run.{start, run, open-listing, run-opened, listing, answers-of}
+use Rattle.refs.specs.Means.{state-of, opening-check, opened}
+use Rattle.refs.specs.declared.overlay_iter.Opening.{Opening}
+use Rattle.refs.specs.declared.overlay_iter.Opening.the-variants as opening
+use Rattle.refs.specs.declared.overlay_iter.Opened.{Opened}
 
 pub no-namespace : (has : Bool) (s : Bytes) → not has ≡ true → gives (start []) ≡ checked (names-check none (if-there has s)) (start (expansion (if-there has s)))
 no-namespace true s h = absurd (false≢true h)
@@ -31,3 +36,29 @@ namespace-right false s n t h = absurd (true≢false t)
 pub namespace-refused : (has : Bool) (s : Bytes) (j : ℕ) → not has ≡ false → refuses j ≡ expanded s → refuses j ≡ checked (names-check none (if-there has s)) (start (expansion (if-there has s)))
 namespace-refused true s j t h = refuses-start (names-check none (some s)) j (expand s) (h ∙ expanded-is s)
 namespace-refused false s j t h = absurd (true≢false t)
+
+-- ---- the answers of a listing
+
+-- none, where the opening is refused
+pub not-opened-answers : (width : ℕ) (s : Snapshot) (namespace : Option Bytes) (n : ℕ) (o : Opened) → opened o ≡ open-listing s namespace → not (is-there (opening-check (o .opening))) ≡ false
+    → answers-of (listing width s namespace n) ≡ []
+unfolding listing
+not-opened-answers width s namespace n o e h = rw (← e) (go (o .opening) h)
+  where
+    go : (x : Opening) → not (is-there (opening-check x)) ≡ false → answers-of (run-opened width s n (checked (opening-check x) (state-of (o .state)))) ≡ []
+    go opening.Opened z = cc
+    go opening.NotWhole z = refl
+    go opening.TooMany z = refl
+    go (opening.Refused why) z = refl
+
+-- else those of the steps from the state that it gives
+pub opened-answers : (width : ℕ) (s : Snapshot) (namespace : Option Bytes) (n : ℕ) (o : Opened) → opened o ≡ open-listing s namespace → not (is-there (opening-check (o .opening))) ≡ true
+    → answers-of (listing width s namespace n) ≡ run width s n (state-of (o .state)) .answers
+unfolding listing
+opened-answers width s namespace n o e h = rw (← e) (go (o .opening) h)
+  where
+    go : (x : Opening) → not (is-there (opening-check x)) ≡ true → answers-of (run-opened width s n (checked (opening-check x) (state-of (o .state)))) ≡ run width s n (state-of (o .state)) .answers
+    go opening.Opened z = refl
+    go opening.NotWhole z = cc
+    go opening.TooMany z = cc
+    go (opening.Refused why) z = cc

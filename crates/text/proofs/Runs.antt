@@ -1,20 +1,26 @@
 -- The lines of a run, step by step.
 use mathlib.Core.Path.{_≡_, refl, ap, sym, _∙_}
-use Prim.Native.Nat.{ℕ, suc, _+_, _-_, _<_, _≤_}
-use mathlib.Core.List.{[], _++_, append-assoc, append-nil}
+use Prim.Native.Nat.{ℕ, suc, _+_, _-_, _*_, _/_, _<_, _≤_}
+use mathlib.Core.Bool.{Bool}
+use mathlib.Core.List.{List, [], _++_, append-assoc, append-nil}
 use native.Mathlib.Omega.{arith}
-use lib.ListN.{take}
-use Rattle.names.specs.Bytes.{Bytes}
-use Rattle.blocks.specs.Snapshot.{Snapshot}
-use Rattle.blocks.specs.Means.{id-width}
+use lib.ListN.{length, take, length-take, length-append}
+use Rattle.names.specs.Bytes.{Bytes, bytes}
+use Rattle.blocks.specs.Layout.{block-size}
+use Rattle.blocks.specs.Snapshot.{Snapshot, or-empty}
+use Rattle.blocks.specs.Means.{id-width, if-there, snapshot-of}
 use Rattle.refs.specs.Run.{State, step, run}
-use Rattle.refs.specs.Means.{state-of, reference-of, listed-with, step-of}
-use Rattle.refs.specs.Answer.{Reference}
+use Rattle.refs.specs.Means.{reason-number, state-of, reference-of, listed-with, step-of}
+use Rattle.refs.specs.Answer.{Reference, Answer}
+use Rattle.refs.specs.declared.raw.Reason.{Reason}
+use Rattle.refs.specs.declared.raw.Reason.the-variants.{Damaged, ErrorKind, Unread, Unreadable, Incomplete, Unsupported}
 use Rattle.refs.specs.declared.overlay_iter.Listed.{Listed}
 use Rattle.refs.specs.declared.overlay_iter.Listed.the-variants as listed
 use Rattle.refs.specs.declared.overlay_iter.Stepped.{Stepped}
-use Rattle.text.specs.Reflist.{answer-line, answer-lines, line-weight, line-count}
-use Rattle.text.specs.Promises.{Put, listed-weight}
+use Rattle.text.specs.Text.{tab, newline, decimal}
+use Rattle.text.specs.Reflist.{answer-line, answer-lines, line-weight, line-count, end-line, listed-text, block-total}
+use Rattle.text.specs.Promises.{Put, PutLines, longest-line, listed-weight}
+use Rattle.text.proofs.Puts.{put-then}
 
 -- what n steps from a state give
 abbrev pub lines : Snapshot → ℕ → State → Bytes
@@ -90,3 +96,41 @@ lines-first s n st b = let all : n - 0 ≡ n = omega arith in rw all
 
 pub count-first : (s : Snapshot) (n : ℕ) (st : State) → 0 + counted s (n - 0) st ≡ counted s n st
 count-first s n st = let all : n - 0 ≡ n = omega arith in rw all (omega arith)
+
+-- the number of blocks as the code has it
+pub total-is : (w c p : Bytes) (has : Bool) (e : Bytes) → e ≡ or-empty (if-there has c)
+    → length w / block-size + length e / block-size + length p / block-size ≡ block-total (snapshot-of w (if-there has c) p)
+unfolding block-total
+total-is w c p has e h = rw h
+
+-- ---- the end
+
+-- where the text ends is known from what it is
+end-known : (a b l : Bytes) (e at : ℕ) → take e a ≡ take at b ++ l → e ≤ length a → at ≤ length b → e ≡ at + length l
+end-known a b l e at t h k =
+    let same-length : length (take e a) ≡ length (take at b ++ l) = ap length t in
+    omega (arith, simp (length-take, length-append) at same-length)
+
+-- lines, then the end
+pub then-end : (b : Bytes) (at steps : ℕ) (l : List Answer) (m : Bytes) (e count : ℕ) (a : Bytes) (r : ℕ)
+    → PutLines b at steps l m e count → at + steps * longest-line ≤ length b → Put m e (bytes "end" ++ tab ++ decimal count ++ newline) a r → Put b at (listed-text l) a r
+unfolding listed-text end-line
+then-end b at steps l m e count a r p h q =
+    let from : e ≡ at + length (answer-lines l) = end-known m b (answer-lines l) e at (p .text) (omega (arith, p .ends-within, p .size)) (omega arith) in
+    let lines-put : Put b at (answer-lines l) m e = record { text = p .text; ends = from; size = p .size } in
+    rw (← p .counted) (put-then lines-put q)
+
+-- no line at all
+pub none-listed : listed-text [] ≡ bytes "end" ++ tab ++ decimal 0 ++ newline
+unfolding listed-text answer-lines line-count end-line
+none-listed = refl
+
+-- ---- numbers
+
+pub reason-small : (why : Reason) → reason-number why ≤ 15
+reason-small Damaged = omega arith
+reason-small ErrorKind = omega arith
+reason-small Unread = omega arith
+reason-small Unreadable = omega arith
+reason-small Incomplete = omega arith
+reason-small Unsupported = omega arith

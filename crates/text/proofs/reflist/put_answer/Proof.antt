@@ -1,3 +1,4 @@
+use Rattle.text.proofs.Runs.{reason-small}
 use Rattle.text.specs.Promises.{longest-line}
 use Rattle.text.proofs.Puts.{put-nothing}
 use native.Mathlib.Omega.{arith}
@@ -44,17 +45,17 @@ returns-3 c = rw (c .before .before .before .before .enum-told3 .given .1) (c .b
 enum-known-a : tie.Need-enum-known-a
 enum-known-a c = search needs
 
-number-of-requires : tie.Need-number-of-requires
-number-of-requires c κs = search needs
+reason-number-requires : tie.Need-reason-number-requires
+reason-number-requires c κs = search needs
 
 put-error-requires-3 : tie.Need-put-error-requires-3
-put-error-requires-3 c κs = search needs
+put-error-requires-3 c κs = (omega (arith, c .reason-number .ensures, reason-small (c .before .before .before .a .given .0 .0)), search needs)
 
 same-length-4 : tie.Need-same-length-4
 same-length-4 c = search needs
 
 returns-4 : tie.Need-returns-4
-returns-4 c = rw (c .before .before .before .before .before .before .a .given .1, ← c .before .before .before .number-of .ensures .0) (c .before .before .put-error3 .ensures)
+returns-4 c = rw (c .before .before .before .before .before .before .a .given .1, ← c .before .before .before .reason-number .ensures) (c .before .before .put-error3 .ensures)
 
 enum-told-4 : tie.Need-enum-told-4
 enum-told-4 c = search needs
@@ -79,7 +80,7 @@ put-answer-spec =
     same-length-3
     returns-3
     enum-known-a
-    number-of-requires
+    reason-number-requires
     put-error-requires-3
     same-length-4
     returns-4
