@@ -41,6 +41,10 @@ most-steps = 3 * most-listed
 abbrev pub longest-listing : ℕ
 longest-listing = most-steps * longest-line + 5 + suc most-steps
 
+-- and the heading
+abbrev pub longest-report : ℕ
+longest-report = 18 + longest-listing
+
 -- the number of lines of a step's answer as the code tells it
 abbrev pub listed-weight : Listed → ℕ
 listed-weight listed.NotWhole = 1

@@ -12,14 +12,16 @@ use refs::overlay_iter::is_opened;
 use refs::overlay_iter::open;
 use refs::overlay_iter::step;
 use blocks::block::BLOCK_SIZE;
+use blocks::fitness::Sizes;
 use blocks::fitness::or_empty;
+use blocks::fitness::sizes_within;
 use refs::raw::Kind;
 use refs::raw::Reference;
 use refs::raw::reason_number;
 ghost use mathlib.Core.Path.{_≡_};
 ghost use Prim.Native.Nat.{_+_, _*_, _≤_};
 ghost use mathlib.Core.List.{_++_};
-ghost use lib.ListN.{length};
+ghost use lib.ListN.{length, take};
 ghost use Rattle.names.specs.Name.{longest};
 ghost use Rattle.names.specs.Category.{short-name};
 ghost use Rattle.names.specs.Means.{content};
@@ -27,8 +29,8 @@ ghost use Rattle.blocks.specs.Means.{id-width, if-there, snapshot-of};
 ghost use Rattle.refs.specs.Run.{run};
 ghost use Rattle.refs.specs.Means.{reference-of, state-of, listed-with};
 ghost use Rattle.text.specs.Text.{newline, decimal};
-ghost use Rattle.text.specs.Reflist.{target-field, entry-line, error-line, answer-line, block-total, listed-text};
-ghost use Rattle.text.specs.Promises.{Put, PutWithin, listed-weight, PutLines, longest-target, longest-line, most-steps, longest-listing, listed-answers};
+ghost use Rattle.text.specs.Reflist.{heading, target-field, entry-line, error-line, answer-line, block-total, listed-text, files-check, report, size-report};
+ghost use Rattle.text.specs.Promises.{Put, PutWithin, listed-weight, PutLines, longest-target, longest-line, most-steps, longest-listing, longest-report, listed-answers};
 
 // The most blocks that a file may have.
 pub const MOST_LISTED: u32 = 40;
@@ -194,4 +196,78 @@ fn put_listing<'a>(
     let end = lines.end;
     let count = lines.count;
     put_numbered(out, end, b"end\t", count)
+}
+
+// The heading and a refusal, 1 or 2.
+fn put_refusal(out: &mut [u8], number: u32) -> usize
+    requires { ⌜ number ≤ 15 ⌝ }
+    requires { ⌜ longest-report ≤ length (now out) ⌝ }
+    ensures { λ r. ⌜ take r (now (out .exit)) ≡ heading ++ error-line number ⌝ }
+{
+    let n = put(out, 0, b"full\tshort\ttarget\n");
+    put_error(out, n, number)
+}
+
+// The heading and a listing of regions of right sizes.
+fn put_report<'a>(
+    out: &mut [u8],
+    worktree: &'a [u8],
+    common: &'a [u8],
+    has_common: bool,
+    packed: &'a [u8],
+) -> usize
+    requires { ⌜ block-total (snapshot-of (now worktree) (if-there «has_common» (now common)) (now packed)) ≤ most-steps ⌝ }
+    requires { ⌜ longest-report ≤ length (now out) ⌝ }
+    ensures { λ r. ⌜ take r (now (out .exit)) ≡ heading ++ listed-text (listed-answers (snapshot-of (now (worktree .entry)) (if-there «has_common» (now (common .entry))) (now (packed .entry)))) ⌝ }
+{
+    let n = put(out, 0, b"full\tshort\ttarget\n");
+    put_listing(out, n, worktree, common, has_common, packed)
+}
+
+// What is written of files from their sizes alone: nothing where the sizes are right.
+pub fn size_report(
+    worktree: usize,
+    common: usize,
+    packed: usize,
+    out: &mut [u8; REPORT_SIZE],
+) -> usize
+    ensures { λ r. ⌜ take r (now (out .exit)) ≡ size-report (files-check worktree common packed) ⌝ }
+{
+    let sizes = sizes_within(MOST_LISTED, worktree, common, packed);
+    match sizes {
+        Sizes::Right => {
+            return 0;
+        }
+        Sizes::NotWhole => {
+            return put_refusal(out, 1);
+        }
+        Sizes::TooMany => {
+            return put_refusal(out, 2);
+        }
+    }
+}
+
+// What is written of the files' bytes.
+pub fn report<'a>(
+    worktree: &'a [u8],
+    common: &'a [u8],
+    has_common: bool,
+    packed: &'a [u8],
+    out: &mut [u8; REPORT_SIZE],
+) -> usize
+    ensures { λ r. ⌜ take r (now (out .exit)) ≡ report id-width (snapshot-of (now (worktree .entry)) (if-there «has_common» (now (common .entry))) (now (packed .entry))) ⌝ }
+{
+    let there = or_empty(common, has_common);
+    let sizes = sizes_within(MOST_LISTED, worktree.len(), there.len(), packed.len());
+    match sizes {
+        Sizes::Right => {
+            return put_report(out, worktree, common, has_common, packed);
+        }
+        Sizes::NotWhole => {
+            return put_refusal(out, 1);
+        }
+        Sizes::TooMany => {
+            return put_refusal(out, 2);
+        }
+    }
 }
