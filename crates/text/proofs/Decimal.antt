@@ -8,10 +8,9 @@ use native.Mathlib.Nat.{pow-suc}
 use native.Mathlib.Numerals.{unary-clauses}
 use borrow.Author.Tests.{leb-true, leb-false, eqb-true, eqb-false, eq-eqb, ne-eqb, lt-ltb}
 use lib.Dec.{eqb, ltb, leb}
-use lib.ListN.{length, length-reverse}
+use lib.ListN.{length, length-append}
 use Rattle.io.specs.Digits.{glyph, digits, Fewest}
 use Rattle.names.specs.Bytes.{Bytes, bytes, if_then_else_}
-use Rattle.names.proofs.Tests.{if-case}
 use Rattle.text.specs.Text.{zero-digit, nine-digit, one-more, numeral, decimal}
 
 -- the last k digits of n, the last one in front
@@ -112,17 +111,25 @@ decimal-digits n k f = sym (append-nil (digits 10 k n)) ∙ sym (backwards k n [
 
 -- ---- lengths
 
-more-length : (l : Bytes) → length (one-more l) ≤ suc (length l)
-unfolding one-more
-more-length [] = omega arith
-more-length (d ∷ l) = if-case (λ (x : Bytes). length x ≤ suc (suc (length l))) (eqb d nine-digit) (λ e. omega (arith, more-length l)) (λ e. omega arith)
+digits-length : (k n : ℕ) → length (digits 10 k n) ≡ k
+digits-length zero n = refl
+digits-length (suc k) n = simp length-append (omega (arith, digits-length k (n / 10)))
 
-numeral-length : (n : ℕ) → length (numeral n) ≤ suc n
-unfolding numeral
-numeral-length zero = omega arith
-numeral-length (suc n) = omega (arith, more-length (numeral n), numeral-length n)
+grown : (j : ℕ) → 10 ^ 20 ≤ 10 ^ (20 + j)
+grown zero = omega arith
+grown (suc j) = let next : 20 + suc j ≡ suc (20 + j) = omega arith in rw (next, pow-suc 10 (20 + j)) (omega (arith, grown j))
 
--- few digits: enough to know that small numbers fit
-pub decimal-length : (n : ℕ) → length (decimal n) ≤ suc n
-unfolding decimal
-decimal-length n = rw (length-reverse (numeral n)) (numeral-length n)
+-- a number of 64 bits has at most 20 digits
+pub few-digits : (n k : ℕ) → Fewest 10 1 n k → n < 2 ^ 64 → k ≤ 20
+few-digits n k f h = go (leb k 20) refl
+  where
+    go : (b : Bool) → leb k 20 ≡ b → k ≤ 20
+    go true e = leb-true k 20 e
+    go false e =
+        let over : 20 < k = leb-false k 20 e in
+        let from : k - 1 ≡ 20 + (k - 21) = omega arith in
+        let least : 10 ^ (k - 1) ≤ n = f .2 (omega arith) in
+        absurd (omega (arith, rw from at least, grown (k - 21)))
+
+pub decimal-few : (n k : ℕ) → Fewest 10 1 n k → n < 2 ^ 64 → length (decimal n) ≤ 20
+decimal-few n k f h = rw (← decimal-digits n k f, digits-length k n) (few-digits n k f h)

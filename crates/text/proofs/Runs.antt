@@ -15,10 +15,8 @@ use Rattle.blocks.specs.Fitness.{whole, not-too-many}
 use Rattle.blocks.specs.Snapshot.{Snapshot, or-empty, sizes-within}
 use Rattle.blocks.specs.Means.{id-width, if-there, snapshot-of}
 use Rattle.refs.specs.Run.{State, step, run}
-use Rattle.refs.specs.Means.{reason-number, state-of, reference-of, listed-with, step-of}
+use Rattle.refs.specs.Means.{state-of, reference-of, listed-with, step-of}
 use Rattle.refs.specs.Answer.{Reference, Answer}
-use Rattle.refs.specs.declared.raw.Reason.{Reason}
-use Rattle.refs.specs.declared.raw.Reason.the-variants.{Damaged, ErrorKind, Unread, Unreadable, Incomplete, Unsupported}
 use Rattle.refs.specs.declared.overlay_iter.Listed.{Listed}
 use Rattle.refs.specs.declared.overlay_iter.Listed.the-variants as listed
 use Rattle.refs.specs.declared.overlay_iter.Stepped.{Stepped}
@@ -129,16 +127,6 @@ then-end b at steps l m e count a r p h q =
 pub none-listed : listed-text [] ≡ bytes "end" ++ tab ++ decimal 0 ++ newline
 unfolding listed-text answer-lines line-count end-line
 none-listed = refl
-
--- ---- numbers
-
-pub reason-small : (why : Reason) → reason-number why ≤ 15
-reason-small Damaged = omega arith
-reason-small ErrorKind = omega arith
-reason-small Unread = omega arith
-reason-small Unreadable = omega arith
-reason-small Incomplete = omega arith
-reason-small Unsupported = omega arith
 
 -- ---- sizes
 

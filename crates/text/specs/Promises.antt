@@ -1,6 +1,6 @@
 -- What private functions promise.
 use mathlib.Core.Path.{_≡_}
-use Prim.Native.Nat.{ℕ, suc, _+_, _*_, _≤_}
+use Prim.Native.Nat.{ℕ, _+_, _*_, _≤_}
 use mathlib.Core.List.{List, _++_}
 use mathlib.Core.Option.{none}
 use lib.ListN.{length, take}
@@ -25,6 +25,10 @@ pub record PutWithin (most : ℕ) (before : Bytes) (at : ℕ) (s after : Bytes) 
   pub put : Put before at s after r
   pub within : r ≤ at + most
 
+-- the most digits of a number of 64 bits
+abbrev pub most-digits : ℕ
+most-digits = 20
+
 -- the longest target of a line of `reflist`: `-> ` and a name
 abbrev pub longest-target : ℕ
 longest-target = 3 + longest
@@ -39,7 +43,7 @@ most-steps = 3 * most-listed
 
 -- the longest listing: its lines, and the end with their count
 abbrev pub longest-listing : ℕ
-longest-listing = most-steps * longest-line + 5 + suc most-steps
+longest-listing = most-steps * longest-line + 5 + most-digits
 
 -- and the heading
 abbrev pub longest-report : ℕ
@@ -59,7 +63,6 @@ pub record PutLines (before : Bytes) (at steps : ℕ) (l : List Answer) (after :
   pub counted : count ≡ line-count l
   pub size : length after ≡ length before
   pub ends-within : end ≤ at + steps * longest-line
-  pub count-within : count ≤ steps
 
 -- the answers of a listing without a namespace, to its end
 abbrev pub listed-answers : Snapshot → List Answer

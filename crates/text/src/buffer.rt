@@ -8,7 +8,7 @@ ghost use Rattle.names.specs.Name.{longest};
 ghost use Rattle.names.specs.Means.{content};
 ghost use Rattle.blocks.specs.Means.{id-width};
 ghost use Rattle.text.specs.Text.{decimal};
-ghost use Rattle.text.specs.Promises.{Put, PutWithin};
+ghost use Rattle.text.specs.Promises.{Put, PutWithin, most-digits};
 
 // Puts s behind the first `at` bytes, and answers where it ends.
 pub(crate) fn put(out: &mut [u8], at: usize, s: &[u8]) -> usize
@@ -41,8 +41,8 @@ pub(crate) fn put_id(out: &mut [u8], at: usize, id: Id) -> usize
 }
 
 pub(crate) fn put_number(out: &mut [u8], at: usize, n: u64) -> usize
-    requires { ⌜ at + length (decimal n) ≤ length (now out) ⌝ }
-    ensures { λ r. ⌜ Put (now (out .entry)) at (decimal n) (now (out .exit)) r ⌝ }
+    requires { ⌜ at + most-digits ≤ length (now out) ⌝ }
+    ensures { λ r. ⌜ PutWithin most-digits (now (out .entry)) at (decimal n) (now (out .exit)) r ⌝ }
 {
     let mut digits = [0u8; 20];
     let k = io::decimal(n, &mut digits);

@@ -30,7 +30,7 @@ ghost use Rattle.refs.specs.Run.{run};
 ghost use Rattle.refs.specs.Means.{reference-of, state-of, listed-with};
 ghost use Rattle.text.specs.Text.{newline, decimal};
 ghost use Rattle.text.specs.Reflist.{heading, target-field, entry-line, error-line, answer-line, block-total, listed-text, files-check, report, size-report};
-ghost use Rattle.text.specs.Promises.{Put, PutWithin, listed-weight, PutLines, longest-target, longest-line, most-steps, longest-listing, longest-report, listed-answers};
+ghost use Rattle.text.specs.Promises.{Put, PutWithin, most-digits, listed-weight, PutLines, longest-target, longest-line, most-steps, longest-listing, longest-report, listed-answers};
 
 // The most blocks that a file may have.
 pub const MOST_LISTED: u32 = 40;
@@ -80,17 +80,15 @@ fn put_entry(out: &mut [u8], at: usize, r: Reference) -> usize
 
 // A word, a number and the line's end.
 fn put_numbered(out: &mut [u8], at: usize, word: &[u8], n: u64) -> usize
-    requires { ⌜ at + length (now word) + length (decimal n) + 1 ≤ length (now out) ⌝ }
-    ensures { λ r. ⌜ Put (now (out .entry)) at (now (word .entry) ++ decimal n ++ newline) (now (out .exit)) r ⌝ }
+    requires { ⌜ at + length (now word) + most-digits + 1 ≤ length (now out) ⌝ }
+    ensures { λ r. ⌜ PutWithin (length (now (word .entry)) + most-digits + 1) (now (out .entry)) at (now (word .entry) ++ decimal n ++ newline) (now (out .exit)) r ⌝ }
 {
     let a = put(out, at, word);
     let b = put_number(out, a, n);
     put(out, b, b"\n")
 }
 
-// An error line: the numbers of refusals are small.
 fn put_error(out: &mut [u8], at: usize, number: u32) -> usize
-    requires { ⌜ number ≤ 15 ⌝ }
     requires { ⌜ at + longest-line ≤ length (now out) ⌝ }
     ensures { λ r. ⌜ PutWithin longest-line (now (out .entry)) at (error-line number) (now (out .exit)) r ⌝ }
 {
@@ -200,7 +198,6 @@ fn put_listing<'a>(
 
 // The heading and a refusal, 1 or 2.
 fn put_refusal(out: &mut [u8], number: u32) -> usize
-    requires { ⌜ number ≤ 15 ⌝ }
     requires { ⌜ longest-report ≤ length (now out) ⌝ }
     ensures { λ r. ⌜ take r (now (out .exit)) ≡ heading ++ error-line number ⌝ }
 {

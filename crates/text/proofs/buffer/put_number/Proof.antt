@@ -1,7 +1,8 @@
 use mathlib.Core.Path.{_∙_}
 use native.Mathlib.Omega.{arith}
 use borrow.Author.Needs.{needs}
-use Rattle.text.proofs.Decimal.{decimal-digits}
+use Rattle.text.proofs.Decimal.{decimal-digits, decimal-few}
+use Rattle.text.proofs.Puts.{put-within}
 use Rattle.text.proofs.buffer.put_number.Statement.{statement}
 use Rattle.text.proofs.buffer.put_number.Tie as tie
 
@@ -16,18 +17,20 @@ slice-aggregate-put c = search needs
 
 put-requires : tie.Need-put-requires
 put-requires c κs =
-    let n = c .before .before .before .before .before .args .n in
+    let start = c .before .before .before .before .before in
     let decimal = c .before .before .decimal in
-    rw (decimal .ensures .1 .1, decimal-digits n (decimal .result) (decimal .ensures .1 .0)) (c .before .before .before .before .before .pre)
+    let digits = decimal-few (start .args .n) (decimal .result) (decimal .ensures .1 .0) (omega (arith, start .fits)) in
+    rw (decimal .ensures .1 .1, decimal-digits (start .args .n) (decimal .result) (decimal .ensures .1 .0)) (omega (arith, start .pre, digits))
 
 same-length : tie.Need-same-length
 same-length c = search needs
 
 returns : tie.Need-returns
 returns c =
-    let n = c .before .before .before .before .before .before .before .before .args .n in
+    let start = c .before .before .before .before .before .before .before .before in
     let decimal = c .before .before .before .before .before .decimal in
-    rw (← decimal-digits n (decimal .result) (decimal .ensures .1 .0), ← decimal .ensures .1 .1) (c .before .before .put .ensures)
+    let digits = decimal-few (start .args .n) (decimal .result) (decimal .ensures .1 .0) (omega (arith, start .fits)) in
+    put-within (rw (← decimal-digits (start .args .n) (decimal .result) (decimal .ensures .1 .0), ← decimal .ensures .1 .1) (c .before .before .put .ensures)) digits
 
 pub put-number-spec : {M : Type 1} → statement M
 put-number-spec =

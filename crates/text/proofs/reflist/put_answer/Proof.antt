@@ -1,4 +1,3 @@
-use Rattle.text.proofs.Runs.{reason-small}
 use Rattle.text.specs.Promises.{longest-line}
 use Rattle.text.proofs.Puts.{put-nothing}
 use native.Mathlib.Omega.{arith}
@@ -49,7 +48,7 @@ reason-number-requires : tie.Need-reason-number-requires
 reason-number-requires c κs = search needs
 
 put-error-requires-3 : tie.Need-put-error-requires-3
-put-error-requires-3 c κs = (omega (arith, c .reason-number .ensures, reason-small (c .before .before .before .a .given .0 .0)), search needs)
+put-error-requires-3 c κs = search needs
 
 same-length-4 : tie.Need-same-length-4
 same-length-4 c = search needs

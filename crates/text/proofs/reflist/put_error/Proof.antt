@@ -1,7 +1,5 @@
-use lib.ListN.{length-append}
 use Rattle.text.specs.Reflist.{error-line}
-use Rattle.text.proofs.Decimal.{decimal-length}
-use Rattle.text.proofs.Puts.{put-within}
+use Rattle.text.proofs.Puts.{wider}
 use native.Mathlib.Omega.{arith}
 use borrow.Author.Needs.{needs}
 use Rattle.text.proofs.reflist.put_error.Statement.{statement}
@@ -11,14 +9,14 @@ slice-aggregate-put-numbered : tie.Need-slice-aggregate-put-numbered
 slice-aggregate-put-numbered c = search needs
 
 put-numbered-requires : tie.Need-put-numbered-requires
-put-numbered-requires c κs = omega (arith, c .before .before .before .pre, decimal-length (c .before .before .before .args .number))
+put-numbered-requires c κs = search needs
 
 same-length : tie.Need-same-length
 same-length c = search needs
 
 returns : tie.Need-returns
 unfolding error-line
-returns c = put-within (c .before .before .put-numbered .ensures) (simp length-append (omega (arith, c .before .before .before .before .before .before .pre, decimal-length (c .before .before .before .before .before .before .args .number))))
+returns c = wider (c .before .before .put-numbered .ensures) (omega arith)
 
 pub put-error-spec : {M : Type 1} → statement M
 put-error-spec =

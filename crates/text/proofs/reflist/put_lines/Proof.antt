@@ -82,7 +82,6 @@ returns c =
       counted = count-done s (args .steps) (loop .i) (state-of (loop .waiting)) (loop .count) (counted s (args .steps) (state-of (args .state))) (omega arith) (loop .inv .5);
       size = loop .inv .1;
       ends-within = omega (arith, loop .inv .2);
-      count-within = omega (arith, loop .inv .3);
     }
 
 pub put-lines-spec : {M : Type 1} → statement M

@@ -4,7 +4,6 @@ use borrow.Author.Tests.{not-true, not-false}
 use Rattle.blocks.specs.Means.{id-width, if-there, snapshot-of}
 use Rattle.refs.proofs.ListOpens.{not-opened-answers, opened-answers}
 use Rattle.text.specs.Reflist.{block-total}
-use Rattle.text.proofs.Decimal.{decimal-length}
 use Rattle.text.proofs.Runs.{then-end, none-listed, total-is}
 use native.Mathlib.Omega.{arith}
 use borrow.Author.Needs.{needs}
@@ -24,7 +23,7 @@ slice-aggregate-put-numbered : tie.Need-slice-aggregate-put-numbered
 slice-aggregate-put-numbered c = search needs
 
 put-numbered-requires : tie.Need-put-numbered-requires
-put-numbered-requires c κs = omega (arith, c .before .before .before .before .before .before .before .before .before .before .pre, decimal-length 0)
+put-numbered-requires c κs = omega (arith, c .before .before .before .before .before .before .before .before .before .before .pre)
 
 same-length : tie.Need-same-length
 same-length c = search needs
@@ -33,7 +32,7 @@ returns : tie.Need-returns
 returns c =
     let args = c .before .before .before .before .before .before .before .before .before .before .before .before .before .args in
     let s = snapshot-of (args .worktree .now) (if-there (args .has-common) (args .common .now)) (args .packed .now) in
-    rw (not-opened-answers id-width s none (block-total s) (c .before .before .before .before .before .before .before .«open» .result) (c .before .before .before .before .before .before .before .«open» .ensures) (sym (c .before .before .before .before .before .before .is-opened .ensures) ∙ not-true (c .before .before .before .before .before .before .is-opened .result) (c .before .before .before .before .before .if1 .taken)), none-listed) (c .before .before .put-numbered .ensures)
+    rw (not-opened-answers id-width s none (block-total s) (c .before .before .before .before .before .before .before .«open» .result) (c .before .before .before .before .before .before .before .«open» .ensures) (sym (c .before .before .before .before .before .before .is-opened .ensures) ∙ not-true (c .before .before .before .before .before .before .is-opened .result) (c .before .before .before .before .before .if1 .taken)), none-listed) (c .before .before .put-numbered .ensures .put)
 
 or-empty-requires : tie.Need-or-empty-requires
 or-empty-requires c κs = search needs
@@ -59,7 +58,7 @@ put-numbered-requires-2 c κs =
     let lines = c .before .before .before .before .put-lines in
     let or-empty = c .before .before .before .before .before .before .or-empty in
     let all = total-is (start .args .worktree .now) (start .args .common .now) (start .args .packed .now) (start .args .has-common) (or-empty .result .now) (or-empty .ensures) in
-    omega (arith, start .pre, all, lines .ensures .ends-within, lines .ensures .count-within, lines .ensures .size, decimal-length (lines .result .count))
+    omega (arith, start .pre, all, lines .ensures .ends-within, lines .ensures .size)
 
 same-length-2 : tie.Need-same-length-2
 same-length-2 c = search needs
@@ -76,7 +75,7 @@ returns-2 c =
       opened-answers id-width s none (block-total s) (c .before .before .before .before .before .before .before .before .before .before .before .before .before .«open» .result) (c .before .before .before .before .before .before .before .before .before .before .before .before .before .«open» .ensures) (sym (c .before .before .before .before .before .before .before .before .before .before .before .before .is-opened .ensures) ∙ not-false (c .before .before .before .before .before .before .before .before .before .before .before .before .is-opened .result) (c .before .before .before .before .before .before .before .before .before .before .before .if1 .left)),
       ← all,
     )
-    (then-end (args .out .now) (args .at) _ _ _ (lines .result .end) (lines .result .count) _ _ (lines .ensures) (omega (arith, start .pre, all)) (c .before .before .put-numbered2 .ensures))
+    (then-end (args .out .now) (args .at) _ _ _ (lines .result .end) (lines .result .count) _ _ (lines .ensures) (omega (arith, start .pre, all)) (c .before .before .put-numbered2 .ensures .put))
 
 pub put-listing-spec : {M : Type 1} → statement M
 put-listing-spec =

@@ -1,4 +1,4 @@
-use Rattle.text.proofs.Puts.{put-then}
+use Rattle.text.proofs.Puts.{then-within, within-then}
 use native.Mathlib.Omega.{arith}
 use borrow.Author.Needs.{needs}
 use Rattle.text.proofs.reflist.put_numbered.Statement.{statement}
@@ -20,7 +20,7 @@ same-length : tie.Need-same-length
 same-length c = search needs
 
 returns : tie.Need-returns
-returns c = put-then (put-then (c .before .before .before .before .before .before .before .before .before .before .before .put .ensures) (c .before .before .before .before .before .before .before .put-number .ensures)) (c .before .before .put2 .ensures)
+returns c = within-then (then-within (c .before .before .before .before .before .before .before .before .before .before .before .put .ensures) (c .before .before .before .before .before .before .before .put-number .ensures)) (c .before .before .put2 .ensures)
 
 pub put-numbered-spec : {M : Type 1} → statement M
 put-numbered-spec =
