@@ -67,3 +67,21 @@ pub record PutLines (before : Bytes) (at steps : ℕ) (l : List Answer) (after :
 -- the answers of a listing without a namespace, to its end
 abbrev pub listed-answers : Snapshot → List Answer
 listed-answers s = answers-of (listing id-width s none (block-total s))
+
+-- ---- `refshow`
+
+-- the longest words, with room to spare
+abbrev pub longest-words : ℕ
+longest-words = 160
+
+-- the longest line of a refusal
+abbrev pub longest-refused : ℕ
+longest-refused = 8 + most-digits + 2 + longest-words + 1
+
+-- the file and the block of a refusal
+abbrev pub longest-unfit : ℕ
+longest-unfit = 3 + 8 + 12 + most-digits + 1
+
+-- the longest answer: a refusal and the last reference reached
+abbrev pub longest-show : ℕ
+longest-show = longest-refused + 24 + longest + 1
