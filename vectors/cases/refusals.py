@@ -1,0 +1,2 @@
+def write(t):
+    pass
