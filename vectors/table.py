@@ -60,6 +60,11 @@ def record(name, digit, peeled=""):
     return block(4, as_bytes(name), as_bytes(digit * 40 + peeled * 40))
 
 
+def rising(*blocks):
+    """The blocks in the order of their names."""
+    return sorted(blocks, key=lambda data: data[8:8 + data[1]])
+
+
 WALK_ERROR = block(3)
 PACKED_ERROR = block(5)
 
