@@ -65,6 +65,7 @@ def main():
     recorded_lines, recorded_answers = recorded(replay)
     last = [b"# the format: input that ends without LF is answered as if LF stood there", b"wellformed 61"]
     answers += recorded_answers + answer_all(replay, last, [[], ["yes"]])
+    Path(paths[0]).parent.mkdir(parents=True, exist_ok=True)
     Path(paths[0]).write_bytes(b"\n".join(table.lines + reset + recorded_lines + last))
     Path(paths[1]).write_bytes("".join(answer + "\n" for answer in answers).encode())
     asked = sum(1 for line in table.lines if line and not line.startswith(b"#"))
