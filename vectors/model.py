@@ -17,7 +17,7 @@ DIGITS = frozenset(b"0123456789abcdefABCDEF")
 
 
 class Refused(Exception):
-    """A refusal by its number; `values` are what the table's column "Gives" adds: region and block, or the last name."""
+    """A refusal by its number; `values` are what the column "Gives" adds: region and block, or the last name."""
 
     def __init__(self, number, *values):
         super().__init__(number, *values)

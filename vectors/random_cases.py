@@ -1,5 +1,5 @@
-"""Random small snapshots, from a seed: few names from a small alphabet, so that clashes, cycles, equal and private names,
-namespaces and damage are frequent. The model answers them."""
+"""Random small snapshots, from a seed: few names from a small alphabet, so that clashes, cycles, equal and private
+names, namespaces and damage are frequent. The model answers them."""
 
 from table import PACKED_ERROR, WALK_ERROR, block, changed, hurt
 
@@ -7,13 +7,16 @@ SEED = 20611
 TURNS = 76
 
 PSEUDO = ["HEAD", "A", "B", "C", "D"]
-HELD = ["refs/heads/a", "refs/heads/b", "refs/heads/a/b", "refs/tags/a", "refs/tags/b", "refs/remotes/a", "refs/remotes/b/HEAD",
+HELD = ["refs/heads/a", "refs/heads/b", "refs/heads/a/b", "refs/tags/a", "refs/tags/b", "refs/remotes/a",
+        "refs/remotes/b/HEAD",
         "refs/bisect/a", "refs/worktree/a", "refs/rewritten/b", "refs/a", "refs/A", "tags/refs/heads/b", "heads/refs/a",
         "worktrees/w/HEAD", "worktrees/w/refs/bisect/a"]
 ODD = ["", "refs", "refs/heads", "refs/heads/a.", "refs/a..b", "a", "worktrees/w", "remotes/refs/a/HEAD"]
-THROUGH = ["main-worktree/HEAD", "main-worktree/refs/heads/a", "main-worktree/refs/bisect/a", "worktrees/w/refs/heads/b",
+THROUGH = ["main-worktree/HEAD", "main-worktree/refs/heads/a", "main-worktree/refs/bisect/a",
+           "worktrees/w/refs/heads/b",
            "worktrees/v/refs/worktree/a", "refs/namespaces/n/refs/heads/a"]
-ASKED = PSEUDO + HELD + THROUGH + ["a", "b", "a/b", "b/HEAD", "heads/a", "tags/a", "bisect/a", "refs", "heads/refs/heads/b"]
+ASKED = PSEUDO + HELD + THROUGH + ["a", "b", "a/b", "b/HEAD", "heads/a", "tags/a", "bisect/a", "refs",
+                                   "heads/refs/heads/b"]
 MALFORMED = ["", "@", "a..b", "/a", "a.lock", "refs/heads/", "a" * 251]
 NAMESPACES = [None] * 14 + [b"n"] * 7 + [b"n/n", b"m"]
 REFUSED = [b"", b"a..b", b"n" * 234, b"n" * 251]
@@ -106,7 +109,8 @@ def region_of(dice, which, spaced):
     if which == "worktree" and dice.chance(35):
         made = chain_of(dice, SPACE if spaced > 50 else "")
     else:
-        made = [(packed if which == "packed" else loose)(dice, spaced) for _ in range(dice.roll(5) + (which == "worktree") * 2)]
+        make = packed if which == "packed" else loose
+        made = [make(dice, spaced) for _ in range(dice.roll(5) + (which == "worktree") * 2)]
     by_name = {data[8:8 + data[1]]: data for data in made}
     return [by_name[name] for name in sorted(by_name)]
 

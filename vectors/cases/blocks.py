@@ -24,9 +24,11 @@ def write_sound(t):
     ask(t, "kind 1, loose file", "loose", file("refs/heads/a", "hello"), "loose 'refs/heads/a' 'hello'")
     ask(t, "kind 1 with an id: the content is given as it stands", "loose", oid("a", "A"),
         "loose 'a' '" + "A" * 40 + "\\n'")
-    ask(t, "kind 2, loose file that could not be read", "loose", unreadable("refs/heads/a"), "unreadable 'refs/heads/a'")
+    ask(t, "kind 2, loose file that could not be read", "loose", unreadable("refs/heads/a"),
+        "unreadable 'refs/heads/a'")
     ask(t, "kind 3, walk error", "loose", WALK_ERROR, "error")
-    ask(t, "kind 4, packed record: 40 digits (target)", "packed", record("refs/heads/a", "1"), "packed 'refs/heads/a' #1 ~")
+    ask(t, "kind 4, packed record: 40 digits (target)", "packed", record("refs/heads/a", "1"),
+        "packed 'refs/heads/a' #1 ~")
     ask(t, "kind 4: 80 digits (target, then peeled id)", "packed", record("refs/tags/v", "1", "2"),
         "packed 'refs/tags/v' #1 #2")
     ask(t, "kind 5, packed error", "packed", PACKED_ERROR, "error")
@@ -55,7 +57,8 @@ def write_lengths(t):
     ask(t, "'Bytes 2-3, low first': 256", "loose", changed(empty, (3, 1)), "damaged")
     ask(t, "the same: 5 + 256, though the low byte fits", "loose", changed(file("a", "hello"), (3, 1)), "damaged")
     ask(t, "the same: 255 times 256", "loose", changed(empty, (3, 255)), "damaged")
-    ask(t, "a name length that is too small leaves an unused byte", "loose", changed(file("abc", ""), (1, 2)), "damaged")
+    ask(t, "a name length that is too small leaves an unused byte", "loose", changed(file("abc", ""), (1, 2)),
+        "damaged")
     ask(t, "a content length that is too small leaves an unused byte", "loose", changed(file("a", "abc"), (2, 2)),
         "damaged")
     ask(t, "a name length that is too large takes in zero bytes", "loose", changed(file("abc", ""), (1, 4)),
@@ -69,15 +72,18 @@ def write_zero_bytes(t):
         ask(t, f"'Bytes 4-7: zero': byte {position}", "loose", changed(sound, (position, 1)), "damaged")
         ask(t, f"the same, packed: byte {position}", "packed", changed(packed, (position, 255)), "damaged")
     for position in (11, 12, 257):
-        ask(t, f"'unused bytes zero': byte {position} behind the name", "loose", changed(sound, (position, 1)), "damaged")
+        ask(t, f"'unused bytes zero': byte {position} behind the name", "loose", changed(sound, (position, 1)),
+            "damaged")
     for position in (261, 262, 507):
-        ask(t, f"'unused bytes zero': byte {position} behind the content", "loose", changed(sound, (position, 1)), "damaged")
+        ask(t, f"'unused bytes zero': byte {position} behind the content", "loose", changed(sound, (position, 1)),
+            "damaged")
     ask(t, "byte 257 is the last of a name of 250 bytes: nothing is unused", "loose",
         changed(file("a" * 250, ""), (257, 98)), "loose '" + "a" * 249 + "b' ''")
     ask(t, "byte 257 is unused behind a name of 249 bytes", "loose", changed(file("a" * 249, ""), (257, 98)), "damaged")
     ask(t, "byte 507 is the last of a content of 250 bytes", "loose",
         changed(file("", "x" * 250), (507, 98)), "loose '' '" + "x" * 249 + "b'")
-    ask(t, "byte 507 is unused behind a content of 249 bytes", "loose", changed(file("", "x" * 249), (507, 98)), "damaged")
+    ask(t, "byte 507 is unused behind a content of 249 bytes", "loose", changed(file("", "x" * 249), (507, 98)),
+        "damaged")
     ask(t, "a walk error with an unused byte set", "loose", changed(WALK_ERROR, (8, 1)), "damaged")
 
 
@@ -137,11 +143,13 @@ def write_records(t):
         if position < 40:
             ask(t, f"no digit at {position} of 40", "packed", block(4, b"refs/a", bytes(content[:40])), "damaged")
     for byte in b"/:@G`g\0\x80":
-        ask(t, f"the bytes next to the digits are none: {byte}", "packed", block(4, b"refs/a", FORTY[:39] + bytes([byte])),
+        ask(t, f"the bytes next to the digits are none: {byte}", "packed",
+            block(4, b"refs/a", FORTY[:39] + bytes([byte])),
             "damaged")
     ask(t, "39 digits and LF", "packed", block(4, b"refs/a", FORTY[:39] + b"\n"), "damaged")
     ask(t, "40 digits and LF", "packed", block(4, b"refs/a", FORTY + b"\n"), "damaged")
-    ask(t, "a record is no symbolic reference", "packed", block(4, b"refs/a", b"ref: refs/heads/a" + b"a" * 23), "damaged")
+    ask(t, "a record is no symbolic reference", "packed", block(4, b"refs/a", b"ref: refs/heads/a" + b"a" * 23),
+        "damaged")
 
 
 def write_not_blocks(t):

@@ -41,6 +41,8 @@ CONTENTS = [
     ("the same: bytes from 128 on", "ref: refs/heads/\\xff", "symbolic 'refs/heads/\\xff'"),
     ("forty digits then `z`: an id", FORTY + "z", f"object {FORTY}"),
     ("forty digits then `a`: refused 10", FORTY + "a", "refused 10"),
+    ("forty digits then `a` and another byte: refused 10", FORTY + "az", "refused 10"),
+    ("the same: LF", FORTY + "a\\n", "refused 10"),
     ("forty digits then a capital digit: refused 10", FORTY + "F", "refused 10"),
     ("forty digits then `0`: refused 10", FORTY + "0", "refused 10"),
     ("forty digits then `g`, the letter behind the digits: an id", FORTY + "g", f"object {FORTY}"),
@@ -74,7 +76,8 @@ def write(t):
     t.note("parse.rs: each byte in place of the fortieth digit, and behind forty digits")
     for byte in (0x2f, 0x30, 0x39, 0x3a, 0x40, 0x41, 0x46, 0x47, 0x60, 0x61, 0x66, 0x67, 0x80, 0xff):
         digit = chr(byte) in "0123456789ABCDEFabcdef"
-        t.ask(f"decode '{FORTY[:39]}\\x{byte:02x}'", f"object {FORTY[:39]}{chr(byte).lower()}" if digit else "refused 10")
+        t.ask(f"decode '{FORTY[:39]}\\x{byte:02x}'",
+              f"object {FORTY[:39]}{chr(byte).lower()}" if digit else "refused 10")
         t.ask(f"decode '{FORTY}\\x{byte:02x}'", "refused 10" if digit else f"object {FORTY}")
     t.note("contents of 249 and 250 bytes: targets of 244 and 245; 251 bytes are no content")
     for length in (249, 250):

@@ -69,7 +69,8 @@ def write_depth(t):
 
 def write_ends(t):
     t.note("an object at once: its id and its own name, loose or packed")
-    t.snapshot(worktree=[oid("refs/heads/a", "1")], packed=[record("refs/heads/b", "2"), record("refs/tags/v", "3", "4")])
+    t.snapshot(worktree=[oid("refs/heads/a", "1")],
+               packed=[record("refs/heads/b", "2"), record("refs/tags/v", "3", "4")])
     t.ask("follow 'a'", "id #1 'refs/heads/a'")
     t.ask("follow 'b'", "id #2 'refs/heads/b'")
     t.note("'ends following, peeled id or not, and its id is the one given'")
@@ -83,12 +84,13 @@ def write_ends(t):
     t.ask("follow 'HEAD'", "refused 13 'refs/heads/s'")
     t.ask("follow 's'", "refused 13 'refs/heads/s'")
     t.note("13 where the target is absent by a directory clash, though packed has it")
-    t.snapshot(worktree=[ref("HEAD", "refs/heads/a/b"), oid("refs/heads/a", "1")], packed=[record("refs/heads/a/b", "2")])
+    t.snapshot(worktree=[ref("HEAD", "refs/heads/a/b"), oid("refs/heads/a", "1")],
+               packed=[record("refs/heads/a/b", "2")])
     t.ask("follow 'HEAD'", "refused 13 'HEAD'")
 
 
 def write_refused(t):
-    t.note("'Search and following give 9 to 12 for the file that decides, as the number alone': at once and behind a step")
+    t.note("'Search and following give 9 to 12 [..] as the number alone': at once and behind a step")
     t.snapshot(worktree=rising(
         ref("A", "refs/u"), ref("B", "refs/j"), ref("C", "refs/i"), ref("D", "refs/r"), unreadable("refs/u"),
         file("refs/j", "junk"), file("refs/i", "ref: i"), ref("refs/r", "refs/heads/.invalid")))
@@ -102,11 +104,13 @@ def write_refused(t):
 
 def write_names(t):
     t.note("'Following searches each target as a partial name again': all candidates")
-    t.snapshot(worktree=[ref("A", "x/y"), ref("B", "refs/heads/z"), oid("refs/heads/x/y", "1"), oid("tags/refs/heads/z", "2")])
+    t.snapshot(worktree=[ref("A", "x/y"), ref("B", "refs/heads/z"), oid("refs/heads/x/y", "1"),
+                         oid("tags/refs/heads/z", "2")])
     t.ask("follow 'A'", "id #1 'refs/heads/x/y'")
     t.ask("follow 'B'", "id #2 'tags/refs/heads/z'")
     t.note("the target `P`: first P itself, then refs/P and so on")
-    t.snapshot(worktree=[ref("A", "P"), ref("B", "O"), oid("refs/remotes/O/HEAD", "2")], packed=[record("refs/tags/P", "1")])
+    t.snapshot(worktree=[ref("A", "P"), ref("B", "O"), oid("refs/remotes/O/HEAD", "2")],
+               packed=[record("refs/tags/P", "1")])
     t.ask("follow 'A'", "id #1 'refs/tags/P'")
     t.ask("follow 'B'", "id #2 'refs/remotes/O/HEAD'")
     t.note("a target of HEAD has five candidates")
@@ -129,7 +133,8 @@ def write_names(t):
     t.snapshot(worktree=[ref("HEAD", "refs/heads/m"), oid("refs/heads/m", "1")], common=[oid("refs/heads/m", "2")],
                packed=[record("refs/heads/m", "3")])
     t.ask("follow 'HEAD'", "id #2 'refs/heads/m'")
-    t.snapshot(worktree=[ref("HEAD", "refs/heads/m"), oid("refs/heads/m", "1")], common=[], packed=[record("refs/heads/m", "3")])
+    t.snapshot(worktree=[ref("HEAD", "refs/heads/m"), oid("refs/heads/m", "1")], common=[],
+               packed=[record("refs/heads/m", "3")])
     t.ask("follow 'HEAD'", "id #3 'refs/heads/m'")
 
 
@@ -142,7 +147,8 @@ def write_namespaces(t):
     t.ask("follow 'B'", "id #1 'refs/heads/m'")
     t.ask("follow 'C'", "refused 13 'C'")
     t.note("a stripped target may be incomplete or malformed and is sought unchecked: `m`, `@`, `s`")
-    t.snapshot(worktree=[ref(N + "A", N + "m"), ref(N + "B", N + "@"), ref(N + "C", N + "s"), oid(N + "refs/heads/@", "2"),
+    t.snapshot(worktree=[ref(N + "A", N + "m"), ref(N + "B", N + "@"), ref(N + "C", N + "s"),
+                         oid(N + "refs/heads/@", "2"),
                          ref(N + "refs/heads/s", N + "none"), oid(N + "refs/tags/m", "1")], namespace="n")
     t.ask("follow 'A'", "id #1 'refs/tags/m'")
     t.ask("follow 'B'", "id #2 'refs/heads/@'")

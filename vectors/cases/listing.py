@@ -37,16 +37,19 @@ def write_example(t):
     t.ask("list 1", "ended at 0 0 0")
     t.note("'absent lists as empty': common absent and empty alike")
     t.snapshot(worktree=[oid("refs/bisect/a", "1"), oid("refs/heads/a", "2")])
-    t.ask("list 3", "ref 'refs/bisect/a' object #1 ~ at 1 0 0", "ref 'refs/heads/a' object #2 ~ at 2 0 0", "ended at 2 0 0")
+    t.ask("list 3", "ref 'refs/bisect/a' object #1 ~ at 1 0 0", "ref 'refs/heads/a' object #2 ~ at 2 0 0",
+          "ended at 2 0 0")
     t.set("common", b"")
-    t.ask("list 3", "ref 'refs/bisect/a' object #1 ~ at 1 0 0", "ref 'refs/heads/a' object #2 ~ at 2 0 0", "ended at 2 0 0")
+    t.ask("list 3", "ref 'refs/bisect/a' object #1 ~ at 1 0 0", "ref 'refs/heads/a' object #2 ~ at 2 0 0",
+          "ended at 2 0 0")
 
 
 def write_filter(t):
     t.note("'loose entries begin `refs/` and packed is unfiltered'")
     t.snapshot(worktree=[oid("HEAD", "1"), oid("a/b", "2"), oid("refs", "3"), oid("refs/a", "4"), oid("refsx/a", "5"),
                          oid("worktrees/w/HEAD", "6")],
-               packed=[record("HEAD", "7"), record("a", "8"), record("main-worktree/HEAD", "9"), record("refs/b", "a", "b")])
+               packed=[record("HEAD", "7"), record("a", "8"), record("main-worktree/HEAD", "9"),
+                       record("refs/b", "a", "b")])
     t.ask("list 6", "ref 'HEAD' object #7 ~ at 0 0 1", "ref 'a' object #8 ~ at 0 0 2",
           "ref 'main-worktree/HEAD' object #9 ~ at 0 0 3", "ref 'refs/a' object #4 ~ at 4 0 3",
           "ref 'refs/b' object #a #b at 4 0 4", "ended at 4 0 4")
@@ -59,7 +62,7 @@ def write_filter(t):
 
 
 def write_private(t):
-    t.note("'Private names of the common region change nothing in a listing'; private names of worktree and packed are listed")
+    t.note("'Private names of the common region change nothing'; those of worktree and packed are listed")
     t.snapshot(worktree=[oid("refs/bisect/a", "1"), oid("refs/rewritten/a", "2"), oid("refs/worktree/a", "3")],
                common=[oid("refs/bisect/b", "4"), oid("refs/heads/m", "5"), oid("refs/rewritten/b", "6"),
                        unreadable("refs/worktree/a"), oid("refs/worktree/b", "7")],
@@ -98,7 +101,8 @@ def write_error_order(t):
     t.note("three errors: packed, then common, then worktree; then the names")
     t.snapshot(worktree=[WALK_ERROR, oid("refs/a", "1")], common=[WALK_ERROR, oid("refs/b", "2")],
                packed=[PACKED_ERROR, record("refs/c", "3")])
-    t.ask("list 7", "refused 7 at 0 0 1", "refused 7 at 0 1 1", "refused 7 at 1 1 1", "ref 'refs/a' object #1 ~ at 2 1 1",
+    t.ask("list 7", "refused 7 at 0 0 1", "refused 7 at 0 1 1", "refused 7 at 1 1 1",
+          "ref 'refs/a' object #1 ~ at 2 1 1",
           "ref 'refs/b' object #2 ~ at 2 2 1", "ref 'refs/c' object #3 ~ at 2 2 2", "ended at 2 2 2")
     t.note("'a common error, even before a worktree entry': misreading two")
     t.snapshot(worktree=[oid("refs/a", "1")], common=[WALK_ERROR, oid("refs/b", "2")])
@@ -119,10 +123,12 @@ def write_error_order(t):
     t.note("damaged blocks are errors of the same order, with 6")
     t.snapshot(worktree=[hurt(oid("refs/a", "1"))], common=[hurt(oid("refs/a", "2")), WALK_ERROR],
                packed=[hurt(record("refs/a", "3"))])
-    t.ask("list 5", "refused 6 at 0 0 1", "refused 6 at 0 1 1", "refused 7 at 0 2 1", "refused 6 at 1 2 1", "ended at 1 2 1")
+    t.ask("list 5", "refused 6 at 0 0 1", "refused 6 at 0 1 1", "refused 7 at 0 2 1", "refused 6 at 1 2 1",
+          "ended at 1 2 1")
     t.note("a block of the other region's kind is damaged")
     t.snapshot(worktree=[record("refs/a", "1"), oid("refs/b", "2")], packed=[oid("refs/a", "3"), PACKED_ERROR])
-    t.ask("list 5", "refused 6 at 0 0 1", "refused 7 at 0 0 2", "refused 6 at 1 0 2", "ref 'refs/b' object #2 ~ at 2 0 2",
+    t.ask("list 5", "refused 6 at 0 0 1", "refused 7 at 0 0 2", "refused 6 at 1 0 2",
+          "ref 'refs/b' object #2 ~ at 2 0 2",
           "ended at 2 0 2")
 
 
@@ -140,7 +146,8 @@ def write_error_alone(t):
     t.note("an error entry of common behind private blocks is seen at once; taking it puts the position past them all")
     t.snapshot(worktree=[oid("refs/heads/a", "1")],
                common=[oid("refs/bisect/a", "2"), oid("refs/bisect/b", "3"), WALK_ERROR, oid("refs/heads/b", "4")])
-    t.ask("list 4", "refused 7 at 0 3 0", "ref 'refs/heads/a' object #1 ~ at 1 3 0", "ref 'refs/heads/b' object #4 ~ at 1 4 0",
+    t.ask("list 4", "refused 7 at 0 3 0", "ref 'refs/heads/a' object #1 ~ at 1 3 0",
+          "ref 'refs/heads/b' object #4 ~ at 1 4 0",
           "ended at 1 4 0")
     t.note("the same behind names outside refs/ and malformed ones, in worktree")
     t.snapshot(worktree=[oid("HEAD", "1"), oid("refs/a..b", "2"), WALK_ERROR], packed=[record("refs/heads/b", "4")])
@@ -156,7 +163,8 @@ def write_refused_entries(t):
     t.note("the same from common")
     t.snapshot(common=[unreadable("refs/a"), file("refs/b", ""), file("refs/c", "ref: "),
                        ref("refs/d", "refs/heads/.invalid")])
-    t.ask("list 5", "refused 9 at 0 1 0", "refused 10 at 0 2 0", "refused 11 at 0 3 0", "refused 12 at 0 4 0", "ended at 0 4 0")
+    t.ask("list 5", "refused 9 at 0 1 0", "refused 10 at 0 2 0", "refused 11 at 0 3 0", "refused 12 at 0 4 0",
+          "ended at 0 4 0")
     t.note("they take part in the order by name and consume equal names")
     t.snapshot(worktree=[unreadable("refs/b"), file("refs/d", "junk")], common=[oid("refs/b", "1"), oid("refs/c", "2")],
                packed=[record("refs/a", "3"), record("refs/b", "4"), record("refs/d", "5")])
@@ -175,17 +183,19 @@ def write_disorder(t):
     t.note("a listing does not check the order of names: 8 is not for it")
     t.snapshot(worktree=[oid("refs/b", "1"), oid("refs/a", "2"), oid("refs/a", "3")], packed=[record("refs/a", "4")])
     t.ask("fit", "refused 8 worktree 1")
-    t.ask("list 5", "ref 'refs/a' object #4 ~ at 0 0 1", "ref 'refs/b' object #1 ~ at 1 0 1", "ref 'refs/a' object #2 ~ at 2 0 1",
+    t.ask("list 5", "ref 'refs/a' object #4 ~ at 0 0 1", "ref 'refs/b' object #1 ~ at 1 0 1",
+          "ref 'refs/a' object #2 ~ at 2 0 1",
           "ref 'refs/a' object #3 ~ at 3 0 1", "ended at 3 0 1")
     t.note("equal names in one region: only what waits is compared")
     t.snapshot(common=[oid("refs/a", "1"), oid("refs/a", "2")], packed=[record("refs/a", "3"), record("refs/a", "4"),
                                                                        record("refs/a", "5")])
-    t.ask("list 4", "ref 'refs/a' object #1 ~ at 0 1 1", "ref 'refs/a' object #2 ~ at 0 2 2", "ref 'refs/a' object #5 ~ at 0 2 3",
+    t.ask("list 4", "ref 'refs/a' object #1 ~ at 0 1 1", "ref 'refs/a' object #2 ~ at 0 2 2",
+          "ref 'refs/a' object #5 ~ at 0 2 3",
           "ended at 0 2 3")
 
 
 def write_positions(t):
-    t.note("a step from any positions: the middle, past the end, the largest number; 'A position past a region is its end'")
+    t.note("a step from the middle, past the end, the largest number; 'A position past a region is its end'")
     t.snapshot(worktree=[oid("refs/a", "1"), oid("refs/b", "2")], common=[oid("refs/c", "3")],
                packed=[record("refs/a", "4"), record("refs/d", "5", "6")])
     t.ask("step 0 0 0", "ref 'refs/a' object #1 ~ at 1 0 1")
@@ -217,7 +227,8 @@ def write_positions(t):
 def write_passed_over(t):
     t.note("'blocks passed over do not move it by themselves': behind what was handed out, and at the end")
     t.snapshot(worktree=[oid("HEAD", "1"), oid("refs/a", "2"), oid("refs/b..c", "3"), oid("zzz", "4")],
-               common=[oid("refs/bisect/a", "5"), oid("refs/bisect/b", "6"), oid("refs/heads/z", "7"), oid("refs/worktree/a", "8")])
+               common=[oid("refs/bisect/a", "5"), oid("refs/bisect/b", "6"), oid("refs/heads/z", "7"),
+                       oid("refs/worktree/a", "8")])
     t.ask("list 3", "ref 'refs/a' object #2 ~ at 2 0 0", "ref 'refs/heads/z' object #7 ~ at 2 3 0", "ended at 2 3 0")
     t.ask("step 1 1 0", "ref 'refs/a' object #2 ~ at 2 1 0")
     t.ask("step 2 1 0", "ref 'refs/heads/z' object #7 ~ at 2 3 0")
@@ -234,7 +245,8 @@ def write_passed_over(t):
 
 def write_namespaces(t):
     t.note("'with one, all begin with its expansion'; names and symbolic targets are stripped once")
-    t.snapshot(worktree=rising(oid("refs/heads/o", "1"), oid(N + "HEAD", "2"), ref(N + "refs/heads/s", N + "refs/heads/t")),
+    t.snapshot(worktree=rising(oid("refs/heads/o", "1"), oid(N + "HEAD", "2"),
+                               ref(N + "refs/heads/s", N + "refs/heads/t")),
                common=[oid(N + "refs/heads/s", "4"), ref(N + "refs/heads/u", "refs/heads/t"), oid(N + N + "x", "3"),
                        oid("refs/namespaces/nn/refs/heads/v", "5")],
                packed=[record("refs/heads/p", "6"), record(N + "refs/heads/t", "7", "8"), record("refs/tags/v", "9")],
@@ -255,7 +267,8 @@ def write_namespaces(t):
     t.ask("list 4", "ref 'refs/heads/o' object #1 ~ at 1 0 0", "ref 'refs/heads/p' object #6 ~ at 1 0 1",
           f"ref '{N}HEAD' object #2 ~ at 2 0 1", f"ref '{N}refs/heads/s' symbolic '{N}refs/heads/t' ~ at 3 1 1")
     t.note("under a namespace nothing is private, since the name before stripping counts")
-    t.snapshot(worktree=[oid(N + "refs/bisect/a", "1")], common=[oid(N + "refs/bisect/b", "2"), oid(N + "refs/worktree/c", "3")],
+    t.snapshot(worktree=[oid(N + "refs/bisect/a", "1")],
+               common=[oid(N + "refs/bisect/b", "2"), oid(N + "refs/worktree/c", "3")],
                packed=[record(N + "refs/bisect/b", "4")], namespace="n")
     t.ask("list 4", "ref 'refs/bisect/a' object #1 ~ at 1 0 0", "ref 'refs/bisect/b' object #2 ~ at 1 1 1",
           "ref 'refs/worktree/c' object #3 ~ at 1 2 1", "ended at 1 2 1")
@@ -267,13 +280,17 @@ def write_namespaces(t):
 def write_namespace_errors(t):
     t.note("under a namespace error entries always count, wherever they stand")
     t.snapshot(worktree=[oid("refs/a", "1"), hurt(oid("refs/b", "2"))], common=[oid("refs/a", "3"), WALK_ERROR],
-               packed=[record("refs/a", "4"), PACKED_ERROR, record("refs/c", "5"), record(N + "refs/x", "6")], namespace="n")
-    t.ask("list 5", "refused 7 at 0 0 2", "refused 7 at 0 2 2", "refused 6 at 2 2 2", "ref 'refs/x' object #6 ~ at 2 2 4",
+               packed=[record("refs/a", "4"), PACKED_ERROR, record("refs/c", "5"), record(N + "refs/x", "6")],
+               namespace="n")
+    t.ask("list 5", "refused 7 at 0 0 2", "refused 7 at 0 2 2", "refused 6 at 2 2 2",
+          "ref 'refs/x' object #6 ~ at 2 2 4",
           "ended at 2 2 4")
     t.note("'each block is judged by itself': a packed region out of order, other names in between and in front")
-    t.snapshot(packed=[record("refs/z", "1"), record(N + "b", "2"), record("refs/y", "3"), record(N + "a", "4"), block(4)],
+    t.snapshot(packed=[record("refs/z", "1"), record(N + "b", "2"), record("refs/y", "3"), record(N + "a", "4"),
+                       block(4)],
                namespace="n")
-    t.ask("list 4", "ref 'b' object #2 ~ at 0 0 2", "ref 'a' object #4 ~ at 0 0 4", "refused 6 at 0 0 5", "ended at 0 0 5")
+    t.ask("list 4", "ref 'b' object #2 ~ at 0 0 2", "ref 'a' object #4 ~ at 0 0 4", "refused 6 at 0 0 5",
+          "ended at 0 0 5")
     t.note("9 to 12 under a namespace: only names in it")
     t.snapshot(worktree=rising(unreadable("refs/a"), unreadable(N + "b"), file(N + "c", "ref: " + N),
                                file(N + "d", "ref: " + N + "@")), namespace="n")

@@ -144,7 +144,7 @@ def write_blocks(t):
 
 
 def write_order_of_names(t):
-    t.note("8, 'name not above the one before': by bytes, a proper beginning first; kinds 1 and 2 and malformed names alike")
+    t.note("8, 'name not above the one before': by bytes; kinds 1 and 2 and malformed names alike")
     for names, answer in (
             (["", "a"], "fit"), (["", ""], "refused 8 worktree 1"), (["a", "a/b"], "fit"),
             (["a/b", "a-b"], "refused 8 worktree 1"), (["a-b", "a/b"], "fit"), (["a/b", "a"], "refused 8 worktree 1"),
@@ -158,7 +158,8 @@ def write_order_of_names(t):
     t.snapshot(worktree=[unreadable("b"), oid("a", "1")])
     t.ask("fit", "refused 8 worktree 1")
     t.note("names are compared within a region only; a directory of another name is fit")
-    t.snapshot(worktree=[oid("b", "1")], common=[oid("a", "1"), oid("b", "2")], packed=[record("a", "1"), record("a/b", "2")])
+    t.snapshot(worktree=[oid("b", "1")], common=[oid("a", "1"), oid("b", "2")],
+               packed=[record("a", "1"), record("a/b", "2")])
     t.ask("fit", "fit")
 
 
@@ -212,7 +213,8 @@ def write_blocks_after_rows(t):
 def write_entries(t):
     t.note("9 to 12 in find, follow, list and step, from common; the same name in worktree is not what decides")
     t.snapshot(worktree=[oid("refs/heads/j", "1")],
-               common=[file("refs/heads/i", "ref: x"), file("refs/heads/j", "junk"), ref("refs/heads/r", "refs/heads/.invalid"),
+               common=[file("refs/heads/i", "ref: x"), file("refs/heads/j", "junk"),
+                       ref("refs/heads/r", "refs/heads/.invalid"),
                        unreadable("refs/heads/u")], packed=[record("refs/heads/u", "2")])
     for position, (name, number) in enumerate((("i", 11), ("j", 10), ("r", 12), ("u", 9))):
         t.ask(f"find '{name}'", f"refused {number}")

@@ -47,11 +47,13 @@ def write_candidates(t):
     t.ask("find 'e/HEAD'", "found 'refs/remotes/e/HEAD' object #b ~")
     t.ask("find 'refs/remotes/e/HEAD'", "found 'refs/remotes/e/HEAD' object #b ~")
     t.note("a loose file in a later candidate does not come before a packed record in an earlier one")
-    t.snapshot(worktree=[oid("refs/heads/a", "1"), oid("refs/remotes/e/HEAD", "2")], packed=[record("refs/tags/a", "3")])
+    t.snapshot(worktree=[oid("refs/heads/a", "1"), oid("refs/remotes/e/HEAD", "2")],
+               packed=[record("refs/tags/a", "3")])
     t.ask("find 'a'", "found 'refs/tags/a' object #3 ~")
     t.ask("find 'e'", "found 'refs/remotes/e/HEAD' object #2 ~")
     t.note("a loose file over a packed record of the same name; the answer from loose has no peeled id")
-    t.snapshot(worktree=[oid("refs/tags/v", "1")], packed=[record("refs/tags/v", "2", "3"), record("refs/tags/w", "4", "5")])
+    t.snapshot(worktree=[oid("refs/tags/v", "1")],
+               packed=[record("refs/tags/v", "2", "3"), record("refs/tags/w", "4", "5")])
     t.ask("find 'v'", "found 'refs/tags/v' object #1 ~")
     t.ask("find 'w'", "found 'refs/tags/w' object #4 #5")
     t.note("ids are answered in lower case, loose and packed")
@@ -62,7 +64,8 @@ def write_candidates(t):
 
 
 def write_pseudo(t):
-    held = [("A", "1"), ("refs/A", "2"), ("refs/B", "3"), ("refs/tags/B", "4"), ("refs/tags/C", "5"), ("refs/heads/C", "6"),
+    held = [("A", "1"), ("refs/A", "2"), ("refs/B", "3"), ("refs/tags/B", "4"), ("refs/tags/C", "5"),
+            ("refs/heads/C", "6"),
             ("refs/heads/D", "7"), ("refs/remotes/D", "8"), ("refs/remotes/E_", "9"), ("refs/remotes/F/HEAD", "a"),
             ("refs/remotes/HEAD/HEAD", "b")]
     t.note("'If x is pseudo, the first pass holds only x itself', then a second pass: six candidates, HEAD five")
@@ -116,7 +119,7 @@ def write_full(t):
     t.ask("find 'refs/b'", "absent")
     t.ask("find 'refs/c'", "found 'tags/refs/c' object #5 ~")
     t.ask("find 'heads/refs/a'", "absent")
-    t.note("'`x/HEAD`, itself the partial name that may look full': `refs`, `main-worktree` and `worktrees` do not, theirs do")
+    t.note("'`x/HEAD`, itself the partial name that may look full': x = `refs` does not, its `x/HEAD` does")
     t.snapshot(worktree=[oid("refs/remotes/main-worktree/HEAD", "1"), oid("refs/remotes/refs/HEAD", "2"),
                          oid("remotes/main-worktree/HEAD", "3"), oid("remotes/refs/HEAD", "4"),
                          oid("remotes/worktrees/HEAD", "5")])
@@ -144,7 +147,7 @@ def write_routing(t):
     common = [oid("HEAD", "6"), oid("refs/bisect/x", "7"), oid("refs/heads/m", "8"), oid("refs/notes/x", "9"),
               oid("refs/rewritten/x", "a"), oid("refs/stash", "b"), oid("refs/worktree/x", "c"),
               oid("worktrees/w/HEAD", "d"), oid("worktrees/w/refs/bisect/x", "e"), oid("worktrees/w/refs/heads/m", "f")]
-    t.note("'Routing is by the candidate's category': PseudoRef, Bisect, Rewritten, WorktreePrivate in worktree, else common")
+    t.note("'Routing is by the candidate's category': four categories in worktree, all others in common")
     t.snapshot(worktree=worktree, common=common)
     t.ask("find 'HEAD'", "found 'HEAD' object #1 ~")
     t.ask("find 'refs/bisect/x'", "found 'refs/bisect/x' object #2 ~")
@@ -160,7 +163,7 @@ def write_routing(t):
     t.ask("find 'main-worktree/refs/bisect/x'", "found 'main-worktree/refs/bisect/x' object #7 ~")
     t.ask("find 'main-worktree/refs/rewritten/x'", "found 'main-worktree/refs/rewritten/x' object #a ~")
     t.ask("find 'main-worktree/refs/worktree/x'", "found 'main-worktree/refs/worktree/x' object #c ~")
-    t.note("LinkedPseudoRef: the whole name in common; LinkedRef: whole if what it names is private, else its short name")
+    t.note("LinkedPseudoRef: the whole name in common; LinkedRef: whole if its short name is private, else short")
     t.ask("find 'worktrees/w/HEAD'", "found 'worktrees/w/HEAD' object #d ~")
     t.ask("find 'worktrees/v/HEAD'", "absent")
     t.ask("find 'worktrees/w/refs/bisect/x'", "found 'worktrees/w/refs/bisect/x' object #e ~")
@@ -221,14 +224,16 @@ def write_packed(t):
 
 def write_clashes(t):
     t.note("'a proper directory of the routed path': absent, packed is not consulted: misreading one")
-    t.snapshot(worktree=[oid("refs/heads/a", "1")], packed=[record("refs/heads/a/b", "2"), record("refs/heads/ab", "3")])
+    t.snapshot(worktree=[oid("refs/heads/a", "1")],
+               packed=[record("refs/heads/a/b", "2"), record("refs/heads/ab", "3")])
     t.ask("find 'refs/heads/a/b'", "absent")
     t.ask("find 'a/b'", "absent")
     t.ask("find 'refs/heads/a'", "found 'refs/heads/a' object #1 ~")
     t.note("a proper beginning without a slash is no directory")
     t.ask("find 'ab'", "found 'refs/heads/ab' object #3 ~")
     t.note("only the candidate is absent, the search goes on")
-    t.snapshot(worktree=[oid("refs/heads/a", "1")], packed=[record("refs/heads/a/b", "2"), record("refs/remotes/a/b", "3")])
+    t.snapshot(worktree=[oid("refs/heads/a", "1")],
+               packed=[record("refs/heads/a/b", "2"), record("refs/remotes/a/b", "3")])
     t.ask("find 'a/b'", "found 'refs/remotes/a/b' object #3 ~")
     t.note("a file that could not be read is a file")
     t.snapshot(worktree=[unreadable("refs/heads/a")], packed=[record("refs/heads/a/b", "2")])
@@ -245,7 +250,8 @@ def write_clashes(t):
     t.snapshot(worktree=[oid("refs/heads/a", "1"), oid("refs/heads/a/b", "2")])
     t.ask("find 'refs/heads/a/b'", "absent")
     t.note("several components above the path; the first component alone")
-    t.snapshot(worktree=[oid("HEAD", "1"), oid("refs", "2")], packed=[record("heads/refs/b", "3"), record("refs/heads/a", "4")])
+    t.snapshot(worktree=[oid("HEAD", "1"), oid("refs", "2")],
+               packed=[record("heads/refs/b", "3"), record("refs/heads/a", "4")])
     t.ask("find 'refs/heads/a'", "absent")
     t.ask("find 'HEAD'", "found 'HEAD' object #1 ~")
     t.ask("find 'refs/b'", "found 'heads/refs/b' object #3 ~")
@@ -391,7 +397,8 @@ def write_long_paths(t):
 def write_long_names(t):
     long = "a" * 250
     t.note("names of 249 and 250 bytes are sought, 251 are 3")
-    t.snapshot(worktree=rising(oid("A" * 250, "1"), oid("refs/heads/" + long[11:], "2"), oid("refs/heads/" + long[12:], "3"),
+    t.snapshot(worktree=rising(oid("A" * 250, "1"), oid("refs/heads/" + long[11:], "2"),
+                               oid("refs/heads/" + long[12:], "3"),
                                oid("refs/tags/" + long[10:], "4"), oid("refs/" + long[5:], "5"),
                                oid("refs/remotes/" + "o" * 232 + "/HEAD", "6")))
     t.ask(f"find '{'A' * 250}'", f"found '{'A' * 250}' object #1 ~")

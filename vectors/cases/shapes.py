@@ -11,25 +11,32 @@ NO_SHAPE = [
     ("CR and tab are ordinary bytes", [b"fit\r", b"\r", b"find 61\r", b"\t", b"find\t61", b"fit\t", b"list 1\r"]),
     ("NUL and bytes from 128 on", [b"\0", b"fit\0", b"find 61\0", b"\xff", b"find \xff", b"f\xc3\xaft"]),
     ("missing fields", [b"find", b"follow", b"wellformed", b"complete", b"pseudo", b"order", b"order 61", b"category",
-                        b"fullname", b"fullname Tag", b"fullname Tag ~", b"expand", b"strip", b"strip 61", b"decode", b"block",
+                        b"fullname", b"fullname Tag", b"fullname Tag ~", b"expand", b"strip", b"strip 61", b"decode",
+                        b"block",
                         b"list", b"step", b"step 1", b"step 1 2", b"worktree", b"common", b"packed", b"namespace"]),
-    ("fields too many", [b"fit 1", b"find 61 62", b"follow 61 62", b"wellformed 61 62", b"order 61 62 63", b"category 61 62",
+    ("fields too many", [b"fit 1", b"find 61 62", b"follow 61 62", b"wellformed 61 62", b"order 61 62 63",
+                         b"category 61 62",
                          b"fullname Tag ~ 61 62", b"expand 61 62", b"strip 61 62 63", b"decode 61 62", b"list 1 2",
                          b"step 1 2 3 4", b"worktree - -", b"common ~ ~", b"namespace 61 62"]),
     ("an odd number of digits", [b"find 6", b"find 616", b"worktree 0", b"namespace 6e6", b"fullname Tag ~ 6"]),
     ("upper-case hexadecimal digits", [b"find 6A", b"find 4F", b"find 6a6B", b"namespace 6E", b"category FF"]),
     ("no hexadecimal digits", [b"find 6g", b"find zz", b"find 0x61", b"find -61", b"find 61-", b"find --", b"find 'a'",
                                b"find +1", b"find 6/", b"find 6:", b"find 6`", b"find 6@"]),
-    ("absent where it may not be", [b"find ~", b"follow ~", b"wellformed ~", b"order ~ 61", b"order 61 ~", b"category ~",
-                                    b"expand ~", b"strip ~ 61", b"strip 61 ~", b"decode ~", b"worktree ~", b"block loose ~",
+    ("absent where it may not be", [b"find ~", b"follow ~", b"wellformed ~", b"order ~ 61", b"order 61 ~",
+                                    b"category ~",
+                                    b"expand ~", b"strip ~ 61", b"strip 61 ~", b"decode ~", b"worktree ~",
+                                    b"block loose ~",
                                     b"fullname Tag ~ ~", b"find ~~", b"common ~61"]),
     ("no category", [b"fullname tag ~ 61", b"fullname TAG ~ 61", b"fullname Tags ~ 61", b"fullname none ~ 61",
                      b"fullname Linked 77 61", b"fullname - ~ 61", b"fullname 61 ~ 61"]),
-    ("the linked categories need a worktree name", [b"fullname LinkedRef ~ 61", b"fullname LinkedPseudoRef ~ 48454144"]),
-    ("a field that is passed over must still have its shape", [b"fullname Tag zz 61", b"fullname Tag 6 61", b"fullname Tag 6A 61"]),
+    ("the linked categories need a worktree name",
+     [b"fullname LinkedRef ~ 61", b"fullname LinkedPseudoRef ~ 48454144"]),
+    ("a field that is passed over must still have its shape",
+     [b"fullname Tag zz 61", b"fullname Tag 6 61", b"fullname Tag 6A 61"]),
     ("no numbers", [b"list -", b"list ~", b"list -1", b"list +1", b"list 1a", b"list 0x1", b"list 1.0", b"list one",
                     b"step 0 0 -1", b"step a 0 0", b"step 0 ~ 0", b"step 1, 2 3"]),
-    ("numbers over 2^64 - 1", [b"list 18446744073709551616", b"step 18446744073709551616 0 0", b"step 0 18446744073709551616 0",
+    ("numbers over 2^64 - 1", [b"list 18446744073709551616", b"step 18446744073709551616 0 0",
+                               b"step 0 18446744073709551616 0",
                                b"step 0 0 18446744073709551616", b"step 0 0 18446744073709551620",
                                b"step 0 0 18446744073709551700", b"step 0 0 36893488147419103232",
                                b"step 0 0 99999999999999999999", b"step 0 0 184467440737095516150",
@@ -62,8 +69,10 @@ def write_comments(t):
 
 def write_unchanged(t):
     t.note("the format: a line without a shape 'changes nothing'")
-    t.snapshot(worktree=[oid("HEAD", "1")], common=[], packed=[record("refs/namespaces/n/refs/heads/a", "2")], namespace="n")
-    for line in (b"worktree", b"worktree ~", b"worktree 0", b"worktree - ", b"common zz", b"common ~ ", b"packed  ~", b"packed -\r",
+    t.snapshot(worktree=[oid("HEAD", "1")], common=[], packed=[record("refs/namespaces/n/refs/heads/a", "2")],
+               namespace="n")
+    for line in (b"worktree", b"worktree ~", b"worktree 0", b"worktree - ", b"common zz", b"common ~ ", b"packed  ~",
+                 b"packed -\r",
                  b"namespace 6N", b"namespace", b"namespace ~ ~", b"Namespace ~"):
         t.raw(line, "?")
     t.ask("find 'a'", "found 'refs/heads/a' object #2 ~")
@@ -115,8 +124,8 @@ def write_long(t):
     t.raw(b"strip " + b"61" * 20480 + b" " + b"61" * 20481, "name 61")
     t.note("the format: 20,482 bytes have no shape")
     t.raw(b"pseudo " + b"41" * 20482, "?")
-    letters = "abcdefghij"
-    names = sorted(f"refs/heads/{one}{two * length}" for one in letters for two, length in (("x", 1), ("x", 3), ("y", 1), ("z", 9)))
+    ends = ("x", "xxx", "y", "zzzzzzzzz")
+    names = sorted(f"refs/heads/{letter}{end}" for letter in "abcdefghij" for end in ends)
     region = b"".join(record(name, name[11]) if name[11] < "g" else record(name, "0", "9") for name in names)
     t.note("the format: a region of 40 blocks and one byte; it is 1")
     t.snapshot(packed=region + b"\0")

@@ -14,7 +14,7 @@ def write(t):
     t.snapshot(worktree=[oid("refs/heads/a.", "1")], packed=[record("refs/heads/a./b", "2")])
     t.ask("find 'a./b'", "absent")
     t.ask("list 2", "ref 'refs/heads/a./b' object #2 ~ at 0 0 1", "ended at 0 0 1")
-    t.note("surprise: a full name is also sought with tags/ in front; packed heads/refs/x is found by refs/x, not by itself")
+    t.note("surprise: a full name is also sought with tags/ in front; packed heads/refs/x is found by refs/x only")
     t.snapshot(worktree=[oid("tags/refs/heads/a", "1")], packed=[record("heads/refs/x", "2")])
     t.ask("find 'refs/heads/a'", "found 'tags/refs/heads/a' object #1 ~")
     t.ask("find 'refs/x'", "found 'heads/refs/x' object #2 ~")
@@ -24,12 +24,13 @@ def write(t):
     t.ask("find 'refs/worktree/x'", "absent")
     t.ask("find 'worktrees/w/refs/worktree/x'", "found 'refs/worktree/x' object #1 ~")
     t.ask("find 'main-worktree/refs/worktree/x'", "found 'refs/worktree/x' object #1 ~")
-    t.note("surprise: a linked worktree's shared references are found whether or not it exists; its own file is never read")
+    t.note("surprise: a linked worktree's shared references are found though it does not exist; its file is not read")
     t.snapshot(worktree=[oid("refs/heads/main", "1"), oid("worktrees/v/refs/heads/main", "2")])
     t.ask("find 'worktrees/nobody/refs/heads/main'", "found 'worktrees/nobody/refs/heads/main' object #1 ~")
     t.ask("find 'worktrees/v/refs/heads/main'", "found 'worktrees/v/refs/heads/main' object #1 ~")
-    t.note("surprise: a cycle that is none: s leads to NNc, stripped Nc; its file NNc, answered as c, leads to c, another file")
-    t.snapshot(worktree=rising(ref(N + "refs/s", N + N + "refs/c"), ref(N + N + "refs/c", "refs/c"), oid(N + "refs/c", "1")),
+    t.note("surprise: a cycle that is none: s leads to file NNc, which is answered as c and leads to c, another file")
+    t.snapshot(worktree=rising(ref(N + "refs/s", N + N + "refs/c"), ref(N + N + "refs/c", "refs/c"),
+                               oid(N + "refs/c", "1")),
                namespace="n")
     t.ask("find 's'", f"found 'refs/s' symbolic '{N}refs/c' ~")
     t.ask(f"find '{N}refs/c'", "found 'refs/c' symbolic 'refs/c' ~")
