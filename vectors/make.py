@@ -21,13 +21,17 @@ from table import Table  # noqa: E402
 TOPICS = (names, categories, contents, blocks, search, following, listing, refusals, surprises, shapes)
 
 
+def differ(what, line, wanted, given):
+    sys.exit(f"make.py: the model differs\n  {what} {line[:300]!r}\n  expected {wanted}\n  model {given}")
+
+
 def answer_all(replay, lines, expected):
     """The model's answers, each list compared with what is expected where that is not None."""
     answers = []
     for line, wanted in zip(lines, expected):
         given = replay.answer(line)
         if wanted is not None and given != wanted:
-            sys.exit(f"make.py: the model differs\n  question {line[:300]!r}\n  expected {wanted}\n  model    {given}")
+            differ("question", line, wanted, given)
         answers += given
     return answers
 
@@ -38,15 +42,16 @@ def recorded(replay):
     if not folder.is_dir():
         return [], []
     lines = lines_of((folder / "questions").read_bytes())
-    answers = (folder / "answers").read_text().splitlines()
-    given = []
+    answers = [line.decode("ascii") for line in lines_of((folder / "answers").read_bytes())]
+    at = 0
     for line in lines:
-        given += replay.answer(line)
-        if given != answers[:len(given)]:
-            sys.exit(f"make.py: the model differs from vectors/recorded\n  question {line[:300]!r}\n"
-                     f"  expected {answers[:len(given)][-3:]}\n  model    {given[-3:]}")
-    if len(given) != len(answers):
-        sys.exit("make.py: vectors/recorded has more answers than questions ask for")
+        given = replay.answer(line)
+        wanted = answers[at:at + len(given)]
+        if given != wanted:
+            differ("recorded question", line, wanted, given)
+        at += len(given)
+    if at != len(answers):
+        sys.exit("make.py: vectors/recorded has more answers than its questions ask for")
     return lines, answers
 
 
