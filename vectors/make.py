@@ -13,12 +13,13 @@ HERE = Path(__file__).resolve().parent
 sys.path.insert(0, str(HERE))
 
 import random_cases  # noqa: E402
-from cases import (blocks, categories, contents, following, listing, names, refusals, search, shapes,  # noqa: E402
-                   surprises)
+from cases import (blocks, candidates, categories, contents, following, listing, names, namespaces,  # noqa: E402
+                   positions, refusals, routing, shapes, surprises)
 from model import Replay, lines_of  # noqa: E402
 from table import Table  # noqa: E402
 
-TOPICS = (names, categories, contents, blocks, search, following, listing, refusals, surprises, shapes)
+TOPICS = (names, categories, contents, blocks, candidates, routing, namespaces, following, listing, positions, refusals,
+          surprises, shapes)
 
 
 def differ(what, line, wanted, given):

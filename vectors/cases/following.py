@@ -49,7 +49,7 @@ def write_depth(t):
     t.snapshot(worktree=[ref("A", "B"), ref("B", "C"), ref("C", "D"), ref("D", "E"), ref("E", "F"), ref("F", "Z")])
     t.ask("follow 'A'", "refused 15 'F'")
     t.ask("follow 'B'", "refused 13 'F'")
-    t.note("the starting reference is not counted as seen: a reference that leads to itself is passed twice")
+    t.note("misreading three: the starting reference is not counted as seen, so A that leads to itself is passed twice")
     t.snapshot(worktree=[ref("A", "A")])
     t.ask("follow 'A'", "refused 14 'A'")
     t.note("a cycle of two, and one behind a tail; 14 gives the reference before the repeated one")
