@@ -1,0 +1,162 @@
+"""Document 01, 'Search': routing, names sought packed, and directory clashes."""
+
+from table import file, oid, record, unreadable
+
+
+def write(t):
+    write_routing(t)
+    write_packed(t)
+    write_clashes(t)
+    write_clash_bases(t)
+
+
+def write_routing(t):
+    worktree = [oid("HEAD", "1"), oid("refs/bisect/x", "2"), oid("refs/heads/m", "3"), oid("refs/rewritten/x", "4"),
+                oid("refs/worktree/x", "5")]
+    common = [oid("HEAD", "6"), oid("refs/bisect/x", "7"), oid("refs/heads/m", "8"), oid("refs/notes/x", "9"),
+              oid("refs/rewritten/x", "a"), oid("refs/stash", "b"), oid("refs/worktree/x", "c"),
+              oid("worktrees/w/HEAD", "d"), oid("worktrees/w/refs/bisect/x", "e"), oid("worktrees/w/refs/heads/m", "f")]
+    t.note("'Routing is by the candidate's category': four categories in worktree, all others in common")
+    t.snapshot(worktree=worktree, common=common)
+    t.ask("find 'HEAD'", "found 'HEAD' object #1 ~")
+    t.ask("find 'refs/bisect/x'", "found 'refs/bisect/x' object #2 ~")
+    t.ask("find 'bisect/x'", "found 'refs/bisect/x' object #2 ~")
+    t.ask("find 'refs/rewritten/x'", "found 'refs/rewritten/x' object #4 ~")
+    t.ask("find 'refs/worktree/x'", "found 'refs/worktree/x' object #5 ~")
+    t.ask("find 'm'", "found 'refs/heads/m' object #8 ~")
+    t.ask("find 'refs/notes/x'", "found 'refs/notes/x' object #9 ~")
+    t.ask("find 'stash'", "found 'refs/stash' object #b ~")
+    t.note("MainPseudoRef and MainRef: the short name in common; the answer bears the candidate's name")
+    t.ask("find 'main-worktree/HEAD'", "found 'main-worktree/HEAD' object #6 ~")
+    t.ask("find 'main-worktree/refs/heads/m'", "found 'main-worktree/refs/heads/m' object #8 ~")
+    t.ask("find 'main-worktree/refs/bisect/x'", "found 'main-worktree/refs/bisect/x' object #7 ~")
+    t.ask("find 'main-worktree/refs/rewritten/x'", "found 'main-worktree/refs/rewritten/x' object #a ~")
+    t.ask("find 'main-worktree/refs/worktree/x'", "found 'main-worktree/refs/worktree/x' object #c ~")
+    t.note("LinkedPseudoRef: the whole name in common; LinkedRef: whole if its short name is private, else short")
+    t.ask("find 'worktrees/w/HEAD'", "found 'worktrees/w/HEAD' object #d ~")
+    t.ask("find 'worktrees/v/HEAD'", "absent")
+    t.ask("find 'worktrees/w/refs/bisect/x'", "found 'worktrees/w/refs/bisect/x' object #e ~")
+    t.ask("find 'worktrees/v/refs/bisect/x'", "absent")
+    t.ask("find 'worktrees/w/refs/worktree/x'", "absent")
+    t.ask("find 'worktrees/w/refs/heads/m'", "found 'worktrees/w/refs/heads/m' object #8 ~")
+    t.ask("find 'worktrees/nobody/refs/heads/m'", "found 'worktrees/nobody/refs/heads/m' object #8 ~")
+    t.ask("find 'worktrees/w/refs/stash'", "found 'worktrees/w/refs/stash' object #b ~")
+    t.note("'without a common region its part is played by worktree'")
+    t.snapshot(worktree=worktree)
+    t.ask("find 'HEAD'", "found 'HEAD' object #1 ~")
+    t.ask("find 'main-worktree/HEAD'", "found 'main-worktree/HEAD' object #1 ~")
+    t.ask("find 'm'", "found 'refs/heads/m' object #3 ~")
+    t.ask("find 'main-worktree/refs/bisect/x'", "found 'main-worktree/refs/bisect/x' object #2 ~")
+    t.ask("find 'worktrees/w/refs/heads/m'", "found 'worktrees/w/refs/heads/m' object #3 ~")
+    t.ask("find 'worktrees/w/refs/bisect/x'", "absent")
+    t.note("an empty common region is not an absent one")
+    t.snapshot(worktree=worktree, common=[])
+    t.ask("find 'HEAD'", "found 'HEAD' object #1 ~")
+    t.ask("find 'main-worktree/HEAD'", "absent")
+    t.ask("find 'm'", "absent")
+    t.ask("find 'refs/bisect/x'", "found 'refs/bisect/x' object #2 ~")
+    t.note("an empty packed region is as an absent one")
+    t.snapshot(worktree=worktree, packed=[])
+    t.ask("find 'm'", "found 'refs/heads/m' object #3 ~")
+    t.ask("find 'n'", "absent")
+    t.ask("fit", "fit")
+
+
+def write_packed(t):
+    t.note("'MainPseudoRef, PseudoRef, LinkedPseudoRef and WorktreePrivate are never sought there'")
+    t.snapshot(common=[], packed=[
+        record("HEAD", "1"), record("main-worktree/HEAD", "2"), record("main-worktree/refs/heads/p", "3"),
+        record("refs/bisect/x", "4"), record("refs/heads/m", "5"), record("refs/rewritten/x", "6"),
+        record("refs/worktree/x", "7"), record("worktrees/w/HEAD", "8"), record("worktrees/w/refs/heads/q", "9")])
+    t.ask("find 'HEAD'", "absent")
+    t.ask("find 'main-worktree/HEAD'", "absent")
+    t.ask("find 'worktrees/w/HEAD'", "absent")
+    t.ask("find 'refs/worktree/x'", "absent")
+    t.ask("find 'worktree/x'", "absent")
+    t.note("Bisect and Rewritten are sought there, by their names")
+    t.ask("find 'refs/bisect/x'", "found 'refs/bisect/x' object #4 ~")
+    t.ask("find 'refs/rewritten/x'", "found 'refs/rewritten/x' object #6 ~")
+    t.note("'`main-worktree/refs/heads/a` is sought packed as `refs/heads/a`'; the answer bears the record's name")
+    t.ask("find 'main-worktree/refs/heads/m'", "found 'refs/heads/m' object #5 ~")
+    t.ask("find 'main-worktree/refs/heads/p'", "absent")
+    t.ask("find 'worktrees/w/refs/heads/m'", "found 'refs/heads/m' object #5 ~")
+    t.ask("find 'worktrees/w/refs/heads/q'", "absent")
+    t.ask("find 'worktrees/w/refs/bisect/x'", "found 'refs/bisect/x' object #4 ~")
+    t.ask("find 'main-worktree/refs/bisect/x'", "found 'refs/bisect/x' object #4 ~")
+    t.note("so `refs/worktree/x` is found through a worktree only")
+    t.ask("find 'worktrees/w/refs/worktree/x'", "found 'refs/worktree/x' object #7 ~")
+    t.ask("find 'main-worktree/refs/worktree/x'", "found 'refs/worktree/x' object #7 ~")
+    t.note("a record for a name below another record is found: packed records make no clash")
+    t.snapshot(packed=[record("refs/heads/a", "1"), record("refs/heads/a/b", "2")])
+    t.ask("find 'a/b'", "found 'refs/heads/a/b' object #2 ~")
+
+
+def write_clashes(t):
+    t.note("'a proper directory of the routed path': absent, packed is not consulted: misreading one")
+    t.snapshot(worktree=[oid("refs/heads/a", "1")],
+               packed=[record("refs/heads/a/b", "2"), record("refs/heads/ab", "3")])
+    t.ask("find 'refs/heads/a/b'", "absent")
+    t.ask("find 'a/b'", "absent")
+    t.ask("find 'refs/heads/a'", "found 'refs/heads/a' object #1 ~")
+    t.note("a proper beginning without a slash is no directory")
+    t.ask("find 'ab'", "found 'refs/heads/ab' object #3 ~")
+    t.note("only the candidate is absent, the search goes on")
+    t.snapshot(worktree=[oid("refs/heads/a", "1")],
+               packed=[record("refs/heads/a/b", "2"), record("refs/remotes/a/b", "3")])
+    t.ask("find 'a/b'", "found 'refs/remotes/a/b' object #3 ~")
+    t.note("a file that could not be read is a file")
+    t.snapshot(worktree=[unreadable("refs/heads/a")], packed=[record("refs/heads/a/b", "2")])
+    t.ask("find 'refs/heads/a/b'", "absent")
+    t.note("a file of junk is a file")
+    t.snapshot(worktree=[file("refs/heads/a", "junk")], packed=[record("refs/heads/a/b", "2")])
+    t.ask("find 'refs/heads/a/b'", "absent")
+    t.note("a file of a malformed name is a file")
+    t.snapshot(worktree=[oid("refs/heads/a.", "1")], packed=[record("refs/heads/a./b", "2")])
+    t.ask("find 'refs/heads/a./b'", "absent")
+    t.ask("find 'a./b'", "absent")
+    t.ask("find 'refs/heads/a.'", "refused 4")
+    t.note("with an exact file and a clash both, the clash wins")
+    t.snapshot(worktree=[oid("refs/heads/a", "1"), oid("refs/heads/a/b", "2")])
+    t.ask("find 'refs/heads/a/b'", "absent")
+    t.note("several components above the path; the first component alone")
+    t.snapshot(worktree=[oid("HEAD", "1"), oid("refs", "2")],
+               packed=[record("heads/refs/b", "3"), record("refs/heads/a", "4")])
+    t.ask("find 'refs/heads/a'", "absent")
+    t.ask("find 'HEAD'", "found 'HEAD' object #1 ~")
+    t.ask("find 'refs/b'", "found 'heads/refs/b' object #3 ~")
+    t.note("a file with the empty name is a directory of nothing")
+    t.snapshot(worktree=[oid("", "1")], packed=[record("refs/heads/a", "2")])
+    t.ask("find 'a'", "found 'refs/heads/a' object #2 ~")
+    t.note("a file below the path is no clash")
+    t.snapshot(worktree=[oid("refs/heads/a/b", "1")], packed=[record("refs/heads/a", "2")])
+    t.ask("find 'a'", "found 'refs/heads/a' object #2 ~")
+    t.note("between a file and its path other names may stand in order")
+    t.snapshot(worktree=[oid("refs/heads/a", "1"), oid("refs/heads/a-b", "2"), oid("refs/heads/a.b", "3")],
+               packed=[record("refs/heads/a/b", "4")])
+    t.ask("find 'refs/heads/a/b'", "absent")
+    t.note("`refs/remotes/o` a file: it is found for o; `o/HEAD` below it is not")
+    t.snapshot(worktree=[oid("refs/remotes/o", "1")], packed=[record("refs/remotes/o/HEAD", "2")])
+    t.ask("find 'o'", "found 'refs/remotes/o' object #1 ~")
+    t.ask("find 'o/HEAD'", "absent")
+
+
+def write_clash_bases(t):
+    t.note("'a loose file of that base': a file of the other region makes no clash")
+    t.snapshot(worktree=[oid("refs/heads/a", "1")], common=[], packed=[record("refs/heads/a/b", "2")])
+    t.ask("find 'refs/heads/a/b'", "found 'refs/heads/a/b' object #2 ~")
+    t.snapshot(common=[oid("refs/bisect/a", "1")], packed=[record("refs/bisect/a/b", "2")])
+    t.ask("find 'refs/bisect/a/b'", "found 'refs/bisect/a/b' object #2 ~")
+    t.ask("find 'main-worktree/refs/bisect/a/b'", "absent")
+    t.snapshot(worktree=[oid("refs/bisect/a", "1")], common=[], packed=[record("refs/bisect/a/b", "2")])
+    t.ask("find 'refs/bisect/a/b'", "absent")
+    t.ask("find 'main-worktree/refs/bisect/a/b'", "found 'refs/bisect/a/b' object #2 ~")
+    t.note("'of the routed path': `worktrees/w` lies above a private name of w, not above a shared one")
+    t.snapshot(common=[oid("main-worktree", "1"), oid("worktrees/w", "2")],
+               packed=[record("refs/bisect/x", "3"), record("refs/heads/m", "4")])
+    t.ask("find 'worktrees/w/refs/bisect/x'", "absent")
+    t.ask("find 'worktrees/w/refs/heads/m'", "found 'refs/heads/m' object #4 ~")
+    t.ask("find 'main-worktree/refs/bisect/x'", "found 'refs/bisect/x' object #3 ~")
+    t.note("a clash on the short name of a main or linked name")
+    t.snapshot(common=[oid("refs/heads/a", "1")], packed=[record("refs/heads/a/b", "2")])
+    t.ask("find 'main-worktree/refs/heads/a/b'", "absent")
+    t.ask("find 'worktrees/w/refs/heads/a/b'", "absent")

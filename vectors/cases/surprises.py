@@ -1,0 +1,62 @@
+"""Answers that surprise and are the crate's own (docs/DIFFERENCES.md), one by one, with the smallest input of each."""
+
+from table import file, oid, record, ref, rising
+
+N = "refs/namespaces/n/"
+
+
+def write(t):
+    t.note("surprise: HEAD followed into a packed record with a peeled id ends with the id, no 14")
+    t.snapshot(worktree=[ref("HEAD", "refs/tags/v")], packed=[record("refs/tags/v", "1", "2")])
+    t.ask("follow 'HEAD'", "id #1 'refs/tags/v'")
+    t.ask("find 'v'", "found 'refs/tags/v' object #1 #2")
+    t.note("surprise: a malformed loose file makes names below it absent in search, while the listing shows them")
+    t.snapshot(worktree=[oid("refs/heads/a.", "1")], packed=[record("refs/heads/a./b", "2")])
+    t.ask("find 'a./b'", "absent")
+    t.ask("list 2", "ref 'refs/heads/a./b' object #2 ~ at 0 0 1", "ended at 0 0 1")
+    t.note("surprise: a full name is also sought with tags/ in front; packed heads/refs/x is found by refs/x only")
+    t.snapshot(worktree=[oid("tags/refs/heads/a", "1")], packed=[record("heads/refs/x", "2")])
+    t.ask("find 'refs/heads/a'", "found 'tags/refs/heads/a' object #1 ~")
+    t.ask("find 'refs/x'", "found 'heads/refs/x' object #2 ~")
+    t.ask("find 'heads/refs/x'", "absent")
+    t.note("surprise: a packed private name is found through a worktree only")
+    t.snapshot(packed=[record("refs/worktree/x", "1")])
+    t.ask("find 'refs/worktree/x'", "absent")
+    t.ask("find 'worktrees/w/refs/worktree/x'", "found 'refs/worktree/x' object #1 ~")
+    t.ask("find 'main-worktree/refs/worktree/x'", "found 'refs/worktree/x' object #1 ~")
+    t.note("surprise: a linked worktree's shared references are found though it does not exist; its file is not read")
+    t.snapshot(worktree=[oid("refs/heads/main", "1"), oid("worktrees/v/refs/heads/main", "2")])
+    t.ask("find 'worktrees/nobody/refs/heads/main'", "found 'worktrees/nobody/refs/heads/main' object #1 ~")
+    t.ask("find 'worktrees/v/refs/heads/main'", "found 'worktrees/v/refs/heads/main' object #1 ~")
+    t.note("surprise: a cycle that is none: s leads to file NNc, which is answered as c and leads to c, another file")
+    t.snapshot(worktree=rising(ref(N + "refs/s", N + N + "refs/c"), ref(N + N + "refs/c", "refs/c"),
+                               oid(N + "refs/c", "1")),
+               namespace="n")
+    t.ask("find 's'", f"found 'refs/s' symbolic '{N}refs/c' ~")
+    t.ask(f"find '{N}refs/c'", "found 'refs/c' symbolic 'refs/c' ~")
+    t.ask("find 'refs/c'", "found 'refs/c' object #1 ~")
+    t.ask("follow 's'", "refused 14 'refs/c'")
+    t.ask(f"follow '{N}refs/c'", "id #1 'refs/c'")
+    t.note("surprise: an object gives 14 if its name was seen before")
+    t.snapshot(worktree=[ref("HEAD", "refs/bisect/x"), ref("refs/bisect/x", "worktrees/w/refs/bisect/x")],
+               packed=[record("refs/bisect/x", "1")])
+    t.ask("follow 'HEAD'", "refused 14 'refs/bisect/x'")
+    t.ask("follow 'refs/bisect/x'", "id #1 'refs/bisect/x'")
+    t.note("surprise: in a namespace a private name of common is listed, and search does not find it")
+    t.snapshot(common=[oid(N + "refs/bisect/y", "1")], namespace="n")
+    t.ask("find 'refs/bisect/y'", "absent")
+    t.ask("list 2", "ref 'refs/bisect/y' object #1 ~ at 0 1 0", "ended at 0 1 0")
+    t.note("surprise: a target stripped to `@` is sought unchecked, while find `@` is 4")
+    t.snapshot(worktree=[ref(N + "HEAD", N + "@"), oid(N + "refs/heads/@", "1")], namespace="n")
+    t.ask("follow 'HEAD'", "id #1 'refs/heads/@'")
+    t.ask("find '@'", "refused 4")
+    t.note("surprise: packed HEAD is listed and never found; junk in refs/x hides refs/tags/x")
+    t.snapshot(worktree=[oid("refs/tags/x", "2"), file("refs/x", "junk")], packed=[record("HEAD", "1")])
+    t.ask("find 'HEAD'", "absent")
+    t.ask("list 1", "ref 'HEAD' object #1 ~ at 0 0 1")
+    t.ask("find 'x'", "refused 10")
+    t.ask("find 'tags/x'", "found 'refs/tags/x' object #2 ~")
+    t.note("surprise: names may differ only by the case of digits or by bytes behind the id; the answers are alike")
+    t.snapshot(worktree=[file("refs/heads/a", "AB" * 20 + "\n"), file("refs/heads/b", "ab" * 20 + " junk")])
+    t.ask("follow 'a'", "id " + "ab" * 20 + " 'refs/heads/a'")
+    t.ask("follow 'b'", "id " + "ab" * 20 + " 'refs/heads/b'")
