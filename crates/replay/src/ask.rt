@@ -41,10 +41,30 @@ fn ask_bytes<'a>(
     }
     let x = lend(first, given.len);
     if equal(word, b"find") {
-        return ask_search(worktree, common, has_common, packed, x, namespace, has_namespace, out, n);
+        return ask_search(
+            worktree,
+            common,
+            has_common,
+            packed,
+            x,
+            namespace,
+            has_namespace,
+            out,
+            n,
+        );
     }
     if equal(word, b"follow") {
-        return ask_following(worktree, common, has_common, packed, x, namespace, has_namespace, out, n);
+        return ask_following(
+            worktree,
+            common,
+            has_common,
+            packed,
+            x,
+            namespace,
+            has_namespace,
+            out,
+            n,
+        );
     }
     crate::text::ask_one(word, x, out, n)
 }
@@ -64,7 +84,17 @@ fn ask_list<'a>(
     if !count.ok {
         return put_unknown(out, n);
     }
-    ask_listing(worktree, common, has_common, packed, namespace, has_namespace, count.value, out, n)
+    ask_listing(
+        worktree,
+        common,
+        has_common,
+        packed,
+        namespace,
+        has_namespace,
+        count.value,
+        out,
+        n,
+    )
 }
 
 fn ask_stepping<'a>(
@@ -89,7 +119,17 @@ fn ask_stepping<'a>(
         common: c.value,
         packed: p.value,
     };
-    ask_step(worktree, common, has_common, packed, namespace, has_namespace, from, out, n)
+    ask_step(
+        worktree,
+        common,
+        has_common,
+        packed,
+        namespace,
+        has_namespace,
+        from,
+        out,
+        n,
+    )
 }
 
 // A block of the region that the second field names.
@@ -163,10 +203,31 @@ pub fn ask<'a>(
         return ask_fitness(worktree, common, has_common, packed, out, n);
     }
     if count == 2 && equal(word, b"list") {
-        return ask_list(line, worktree, common, has_common, packed, namespace, has_namespace, out, n);
+        return ask_list(
+            line,
+            worktree,
+            common,
+            has_common,
+            packed,
+            namespace,
+            has_namespace,
+            out,
+            n,
+        );
     }
     if count == 2 {
-        return ask_bytes(line, worktree, common, has_common, packed, namespace, has_namespace, first, out, n);
+        return ask_bytes(
+            line,
+            worktree,
+            common,
+            has_common,
+            packed,
+            namespace,
+            has_namespace,
+            first,
+            out,
+            n,
+        );
     }
     if count == 3 && equal(word, b"block") {
         return ask_of_block(line, first, out, n);
@@ -178,7 +239,17 @@ pub fn ask<'a>(
         return ask_full(line, first, second, out, n);
     }
     if count == 4 && equal(word, b"step") {
-        return ask_stepping(line, worktree, common, has_common, packed, namespace, has_namespace, out, n);
+        return ask_stepping(
+            line,
+            worktree,
+            common,
+            has_common,
+            packed,
+            namespace,
+            has_namespace,
+            out,
+            n,
+        );
     }
     put_unknown(out, n)
 }

@@ -42,13 +42,13 @@ pub fn count_fields(line: &[u8]) -> usize {
     count
 }
 
-// Where the first field ends.
-fn field_end(s: &[u8]) -> usize
+// Where b stands first, or the length.
+pub fn find_byte(s: &[u8], b: u8) -> usize
     ensures { λ r. ⌜ r ≤ length (now (s .entry)) ⌝ }
 {
     let mut i: usize = 0;
     while i < s.len() {
-        if s[i] == b' ' {
+        if s[i] == b {
             return i;
         }
         i += 1;
@@ -57,13 +57,13 @@ fn field_end(s: &[u8]) -> usize
 }
 
 pub fn first_field(s: &[u8]) -> &[u8] {
-    let e = field_end(s);
+    let e = find_byte(s, b' ');
     &s[0..e]
 }
 
 // What stands behind the first field and its space.
 fn behind_first(s: &[u8]) -> &[u8] {
-    let e = field_end(s);
+    let e = find_byte(s, b' ');
     if e < s.len() {
         let a = e + 1;
         return &s[a..];

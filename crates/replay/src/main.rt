@@ -4,148 +4,35 @@ mod ask;
 mod input;
 mod numbers;
 mod output;
+mod set;
 mod snapshot;
 mod text;
+
 use crate::ask::ask;
 use crate::input::MOST;
-use crate::input::count_fields;
-use crate::input::first_field;
-use crate::input::read_bytes;
-use crate::input::read_optional;
-use crate::input::second_field;
+use crate::input::find_byte;
 use crate::output::ROOM;
 use crate::output::flush;
 use crate::output::put_unknown;
-use names::bytes::equal;
+use crate::set::Kept;
+use crate::set::nothing_set;
+use crate::set::set;
 use names::name::lend;
 
 // How much is read at once.
 const CHUNK: usize = 65536;
 
-// The longest line that is kept: no line of a right shape is as long, unless its numbers have very many zeros in front.
-const LINE: usize = 131072;
+// The longest line that is answered. No line of a right shape is longer, unless its numbers have many zeros in front.
+const LONGEST_LINE: usize = 131072;
 
-// What is set: the length of each byte string, and whether it is there. An absent packed region is an empty one.
-struct Kept {
-    worktree: usize,
-    common: usize,
-    has_common: bool,
-    packed: usize,
-    namespace: usize,
-    has_namespace: bool,
-}
-
-// How much of the line was read, and whether it is longer than what is kept of it; how much of the output waits.
+// What is set; how long the line is so far, LONGEST_LINE + 1 standing for every length above; how much of the output waits.
 struct State {
     kept: Kept,
     len: usize,
-    is_over: bool,
     n: usize,
 }
 
-fn start() -> State {
-    let kept = Kept {
-        worktree: 0,
-        common: 0,
-        has_common: false,
-        packed: 0,
-        namespace: 0,
-        has_namespace: false,
-    };
-    State {
-        kept,
-        len: 0,
-        is_over: false,
-        n: 0,
-    }
-}
-
-// What a line sets; not ok where it is none that sets something.
-struct Setting {
-    ok: bool,
-    kept: Kept,
-}
-
-fn set_worktree(value: &[u8], kept: Kept, worktree: &mut [u8; MOST]) -> Setting {
-    let given = read_bytes(value, worktree);
-    let mut next = kept;
-    if given.ok {
-        next.worktree = given.len;
-    }
-    Setting {
-        ok: given.ok,
-        kept: next,
-    }
-}
-
-fn set_common(value: &[u8], kept: Kept, common: &mut [u8; MOST]) -> Setting {
-    let given = read_optional(value, common);
-    let mut next = kept;
-    if given.ok {
-        next.common = given.len;
-        next.has_common = given.there;
-    }
-    Setting {
-        ok: given.ok,
-        kept: next,
-    }
-}
-
-fn set_packed(value: &[u8], kept: Kept, packed: &mut [u8; MOST]) -> Setting {
-    let given = read_optional(value, packed);
-    let mut next = kept;
-    if given.ok {
-        next.packed = given.len;
-    }
-    Setting {
-        ok: given.ok,
-        kept: next,
-    }
-}
-
-fn set_namespace(value: &[u8], kept: Kept, namespace: &mut [u8; MOST]) -> Setting {
-    let given = read_optional(value, namespace);
-    let mut next = kept;
-    if given.ok {
-        next.namespace = given.len;
-        next.has_namespace = given.there;
-    }
-    Setting {
-        ok: given.ok,
-        kept: next,
-    }
-}
-
-// A line that sets something is a word and its value.
-fn set(
-    line: &[u8],
-    kept: Kept,
-    worktree: &mut [u8; MOST],
-    common: &mut [u8; MOST],
-    packed: &mut [u8; MOST],
-    namespace: &mut [u8; MOST],
-) -> Setting {
-    let word = first_field(line);
-    let value = second_field(line);
-    if count_fields(line) != 2 {
-        return Setting { ok: false, kept };
-    }
-    if equal(word, b"worktree") {
-        return set_worktree(value, kept, worktree);
-    }
-    if equal(word, b"common") {
-        return set_common(value, kept, common);
-    }
-    if equal(word, b"packed") {
-        return set_packed(value, kept, packed);
-    }
-    if equal(word, b"namespace") {
-        return set_namespace(value, kept, namespace);
-    }
-    Setting { ok: false, kept }
-}
-
-// Is the line passed over? So are empty lines and those that begin with #.
+// Empty lines and those that begin with # are passed over.
 fn is_passed_over(line: &[u8]) -> bool {
     if line.len() == 0 {
         return true;
@@ -153,14 +40,9 @@ fn is_passed_over(line: &[u8]) -> bool {
     line[0] == b'#'
 }
 
-// The state at the start of the next line.
-fn next_line(kept: Kept, n: usize) -> State {
-    State {
-        kept,
-        len: 0,
-        is_over: false,
-        n,
-    }
+// The state at the start of a line.
+fn at_line_start(kept: Kept, n: usize) -> State {
+    State { kept, len: 0, n }
 }
 
 // Obeys or answers a line that is whole.
@@ -178,15 +60,15 @@ fn answer(
     let kept = s.kept;
     let n = s.n;
     if is_passed_over(line) {
-        return next_line(kept, n);
+        return at_line_start(kept, n);
     }
-    if s.is_over {
-        return next_line(kept, put_unknown(out, n));
+    if s.len > LONGEST_LINE {
+        return at_line_start(kept, put_unknown(out, n));
     }
     let setting = set(line, kept, worktree, common, packed, namespace);
     if setting.ok {
         let new = setting.kept;
-        return next_line(new, n);
+        return at_line_start(new, n);
     }
     let end = ask(
         line,
@@ -201,44 +83,29 @@ fn answer(
         out,
         n,
     );
-    next_line(kept, end)
+    at_line_start(kept, end)
 }
 
-// The place of the first line end from i on, or k.
-fn line_end(input: &[u8; CHUNK], i: usize, k: usize) -> usize {
-    let mut e = i;
-    while e < k {
-        if input[e] == b'\n' {
-            return e;
-        }
-        e += 1;
-    }
-    e
-}
-
-// The state with the bytes from i to e put behind the line, as many as it holds.
-fn gather(input: &[u8; CHUNK], i: usize, e: usize, line: &mut [u8; LINE], s: State) -> State {
-    let mut next = s;
-    let mut len = s.len;
-    let mut j = i;
-    while j < e {
-        if len < LINE {
-            line[len] = input[j];
-            len += 1;
+// Puts s behind the line, as far as it is kept, and answers how long the line is then.
+fn gather(s: &[u8], line: &mut [u8; LONGEST_LINE], len: usize) -> usize {
+    let mut end = len;
+    let mut i: usize = 0;
+    while i < s.len() {
+        if end < LONGEST_LINE {
+            line[end] = s[i];
+            end += 1;
         } else {
-            next.is_over = true;
+            end = LONGEST_LINE + 1;
         }
-        j += 1;
+        i += 1;
     }
-    next.len = len;
-    next
+    end
 }
 
-// Answers the lines that end in the first k bytes of the input, and keeps the rest.
+// Answers the lines that end in what was read, and keeps the rest.
 fn feed(
-    input: &[u8; CHUNK],
-    k: usize,
-    line: &mut [u8; LINE],
+    input: &[u8],
+    line: &mut [u8; LONGEST_LINE],
     s: State,
     worktree: &mut [u8; MOST],
     common: &mut [u8; MOST],
@@ -250,20 +117,33 @@ fn feed(
 ) -> State {
     let mut at = s;
     let mut i: usize = 0;
-    while i < k {
-        let e = line_end(input, i, k);
-        at = gather(input, i, e, line, at);
-        if e < k {
-            at = answer(lend(line, at.len), at, worktree, common, packed, namespace, first, second, out);
+    while i < input.len() {
+        let rest = &input[i..];
+        let e = find_byte(rest, b'\n');
+        at.len = gather(&rest[0..e], line, at.len);
+        if e < rest.len() {
+            at = answer(
+                lend(line, at.len),
+                at,
+                worktree,
+                common,
+                packed,
+                namespace,
+                first,
+                second,
+                out,
+            );
         }
-        i = e + 1;
+        i = i + e + 1;
     }
     at
 }
 
+// What was answered is written before more is read, since whoever asks may wait for it. Nothing says that the input ends, so the
+// turns are counted down, from a number that no run uses up.
 fn main() {
     let mut input = [0u8; CHUNK];
-    let mut line = [0u8; LINE];
+    let mut line = [0u8; LONGEST_LINE];
     let mut worktree = [0u8; MOST];
     let mut common = [0u8; MOST];
     let mut packed = [0u8; MOST];
@@ -271,7 +151,8 @@ fn main() {
     let mut first = [0u8; MOST];
     let mut second = [0u8; MOST];
     let mut out = [0u8; ROOM];
-    let mut s = start();
+    let kept = nothing_set();
+    let mut s = at_line_start(kept, 0);
     let mut turns = u64::MAX;
     while turns > 0 {
         s.n = flush(&out, s.n);
@@ -281,8 +162,7 @@ fn main() {
             break;
         }
         s = feed(
-            &input,
-            k,
+            lend(&input, k),
             &mut line,
             s,
             &mut worktree,
@@ -295,18 +175,16 @@ fn main() {
         );
         turns -= 1;
     }
-    if s.len > 0 {
-        s = answer(
-            lend(&line, s.len),
-            s,
-            &mut worktree,
-            &mut common,
-            &mut packed,
-            &mut namespace,
-            &mut first,
-            &mut second,
-            &mut out,
-        );
-    }
+    s = answer(
+        lend(&line, s.len),
+        s,
+        &mut worktree,
+        &mut common,
+        &mut packed,
+        &mut namespace,
+        &mut first,
+        &mut second,
+        &mut out,
+    );
     flush(&out, s.n);
 }

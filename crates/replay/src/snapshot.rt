@@ -89,7 +89,13 @@ fn put_region(out: &mut [u8; ROOM], n: usize, region: Region) -> usize {
     }
 }
 
-fn put_unfit(out: &mut [u8; ROOM], n: usize, reason: Reason, region: Region, block: usize) -> usize {
+fn put_unfit(
+    out: &mut [u8; ROOM],
+    n: usize,
+    reason: Reason,
+    region: Region,
+    block: usize,
+) -> usize {
     let number_end = put_refused(out, n, flaw_number(reason));
     let region_end = put_region(out, number_end, region);
     put_number(out, region_end, block)
@@ -206,7 +212,15 @@ pub fn ask_search<'a>(
     out: &mut [u8; ROOM],
     n: usize,
 ) -> usize {
-    let f = find(worktree, common, has_common, packed, x, namespace, has_namespace);
+    let f = find(
+        worktree,
+        common,
+        has_common,
+        packed,
+        x,
+        namespace,
+        has_namespace,
+    );
     let gate = f.gate;
     let answer = f.answer;
     if is_passed(gate) {
@@ -249,7 +263,15 @@ pub fn ask_following<'a>(
     out: &mut [u8; ROOM],
     n: usize,
 ) -> usize {
-    let f = follow(worktree, common, has_common, packed, x, namespace, has_namespace);
+    let f = follow(
+        worktree,
+        common,
+        has_common,
+        packed,
+        x,
+        namespace,
+        has_namespace,
+    );
     let gate = f.gate;
     let trail = f.trail;
     if is_passed(gate) {
@@ -299,7 +321,10 @@ fn put_step<'a>(
     let next = s.next;
     let answer_end = put_listed(out, n, answer, reference);
     let end = put_positions(out, answer_end, next);
-    Moved { n: end, state: next }
+    Moved {
+        n: end,
+        state: next,
+    }
 }
 
 fn put_steps<'a>(
@@ -355,7 +380,14 @@ pub fn ask_listing<'a>(
     out: &mut [u8; ROOM],
     n: usize,
 ) -> usize {
-    let o = open(worktree, common, has_common, packed, namespace, has_namespace);
+    let o = open(
+        worktree,
+        common,
+        has_common,
+        packed,
+        namespace,
+        has_namespace,
+    );
     let opening = o.opening;
     if !is_opened(opening) {
         return put_opening(out, n, opening);
@@ -415,7 +447,14 @@ pub fn ask_step<'a>(
 ) -> usize {
     let scope = scope_of(namespace, has_namespace);
     if !scope.ok {
-        let o = open(worktree, common, has_common, packed, namespace, has_namespace);
+        let o = open(
+            worktree,
+            common,
+            has_common,
+            packed,
+            namespace,
+            has_namespace,
+        );
         let opening = o.opening;
         return put_opening(out, n, opening);
     }
