@@ -38,13 +38,20 @@ fn hex_digit(x: u8) -> u8
     if x < 10 { 48 + x } else { 87 + x }
 }
 
+fn high_digit(b: u8) -> u8 {
+    hex_digit(b / 16)
+}
+
+fn low_digit(b: u8) -> u8 {
+    hex_digit(b % 16)
+}
+
 fn put_pairs(out: &mut [u8; ROOM], n: usize, s: &[u8]) -> usize {
     let mut at = n;
     let mut i: usize = 0;
     while i < s.len() {
-        let b = s[i];
-        at = put_byte(out, at, hex_digit(b / 16));
-        at = put_byte(out, at, hex_digit(b % 16));
+        at = put_byte(out, at, high_digit(s[i]));
+        at = put_byte(out, at, low_digit(s[i]));
         i += 1;
     }
     at
@@ -85,7 +92,7 @@ pub fn put_number(out: &mut [u8; ROOM], n: usize, x: usize) -> usize {
     let mut text = [0u8; 20];
     let k = io::decimal(x as u64, &mut text);
     let at = put(out, n, b" ");
-    put(out, at, lend(&text, k))
+    put(out, at, &text[..k])
 }
 
 // A whole line.
