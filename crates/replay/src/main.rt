@@ -47,7 +47,7 @@ fn at_line_start(kept: Kept, n: usize) -> State {
 
 // Obeys or answers a line that is whole.
 fn answer(
-    line: &[u8],
+    kept_line: &[u8; LONGEST_LINE],
     s: State,
     worktree: &mut [u8; MOST],
     common: &mut [u8; MOST],
@@ -59,6 +59,7 @@ fn answer(
 ) -> State {
     let kept = s.kept;
     let n = s.n;
+    let line = lend(kept_line, s.len);
     if is_passed_over(line) {
         return at_line_start(kept, n);
     }
@@ -123,7 +124,7 @@ fn feed(
         at.len = gather(&rest[0..e], line, at.len);
         if e < rest.len() {
             at = answer(
-                lend(line, at.len),
+                line,
                 at,
                 worktree,
                 common,
@@ -139,8 +140,45 @@ fn feed(
     at
 }
 
-// What was answered is written before more is read, since whoever asks may wait for it. Nothing says that the input ends, so the
-// turns are counted down, from a number that no run uses up.
+// One read: whether something came, and the state when its lines are answered.
+struct Turn {
+    more: bool,
+    state: State,
+}
+
+// What was answered is written before more is read, since whoever asks may wait for it.
+fn read_and_answer(
+    input: &mut [u8; CHUNK],
+    line: &mut [u8; LONGEST_LINE],
+    s: State,
+    worktree: &mut [u8; MOST],
+    common: &mut [u8; MOST],
+    packed: &mut [u8; MOST],
+    namespace: &mut [u8; MOST],
+    first: &mut [u8; MOST],
+    second: &mut [u8; MOST],
+    out: &mut [u8; ROOM],
+) -> Turn {
+    let mut written = s;
+    written.n = flush(out, s.n);
+    let got = libc::read(0, input);
+    let k = io::count(got, input);
+    let state = feed(
+        lend(input, k),
+        line,
+        written,
+        worktree,
+        common,
+        packed,
+        namespace,
+        first,
+        second,
+        out,
+    );
+    Turn { more: k > 0, state }
+}
+
+// Nothing says that the input ends, so the turns are counted down, from a number that no run uses up.
 fn main() {
     let mut input = [0u8; CHUNK];
     let mut line = [0u8; LONGEST_LINE];
@@ -155,14 +193,8 @@ fn main() {
     let mut s = at_line_start(kept, 0);
     let mut turns = u64::MAX;
     while turns > 0 {
-        s.n = flush(&out, s.n);
-        let got = libc::read(0, &mut input);
-        let k = io::count(got, &input);
-        if k == 0 {
-            break;
-        }
-        s = feed(
-            lend(&input, k),
+        let t = read_and_answer(
+            &mut input,
             &mut line,
             s,
             &mut worktree,
@@ -173,10 +205,14 @@ fn main() {
             &mut second,
             &mut out,
         );
+        s = t.state;
+        if !t.more {
+            break;
+        }
         turns -= 1;
     }
     s = answer(
-        lend(&line, s.len),
+        &line,
         s,
         &mut worktree,
         &mut common,
