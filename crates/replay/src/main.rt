@@ -1,11 +1,13 @@
 // Answers the lines of standard input on standard output, in the vector format. No answer is worked out here: each is what a
 // function of names, blocks or refs gives.
 mod ask;
+mod block;
 mod input;
+mod listing;
 mod numbers;
 mod output;
+mod search;
 mod set;
-mod snapshot;
 mod text;
 
 use crate::ask::ask;
@@ -73,12 +75,11 @@ fn answer(
     }
     let end = ask(
         line,
+        kept,
         lend(worktree, kept.worktree),
         lend(common, kept.common),
-        kept.has_common,
         lend(packed, kept.packed),
         lend(namespace, kept.namespace),
-        kept.has_namespace,
         first,
         second,
         out,
@@ -140,7 +141,27 @@ fn feed(
     at
 }
 
-// One read: whether something came, and the state when its lines are answered.
+// One read: whether something came, and how much of `input` to answer.
+struct Read {
+    more: bool,
+    len: usize,
+}
+
+// Where nothing came, a line end stands for the end of the input: the last line may have none.
+fn read_some(input: &mut [u8; CHUNK]) -> Read {
+    let got = libc::read(0, input);
+    let len = io::count(got, input);
+    if len > 0 {
+        return Read { more: true, len };
+    }
+    input[0] = b'\n';
+    Read {
+        more: false,
+        len: 1,
+    }
+}
+
+// The state after one read, and whether to go on.
 struct Turn {
     more: bool,
     state: State,
@@ -161,10 +182,9 @@ fn read_and_answer(
 ) -> Turn {
     let mut written = s;
     written.n = flush(out, s.n);
-    let got = libc::read(0, input);
-    let k = io::count(got, input);
+    let read = read_some(input);
     let state = feed(
-        lend(input, k),
+        lend(input, read.len),
         line,
         written,
         worktree,
@@ -175,10 +195,13 @@ fn read_and_answer(
         second,
         out,
     );
-    Turn { more: k > 0, state }
+    Turn {
+        more: read.more,
+        state,
+    }
 }
 
-// Nothing says that the input ends, so the turns are counted down, from a number that no run uses up.
+// Nothing says that the input ends, so the reads are counted down, from a number that no run uses up.
 fn main() {
     let mut input = [0u8; CHUNK];
     let mut line = [0u8; LONGEST_LINE];
@@ -191,8 +214,8 @@ fn main() {
     let mut out = [0u8; ROOM];
     let kept = nothing_set();
     let mut s = at_line_start(kept, 0);
-    let mut turns = u64::MAX;
-    while turns > 0 {
+    let mut left = u64::MAX;
+    while left > 0 {
         let t = read_and_answer(
             &mut input,
             &mut line,
@@ -209,18 +232,7 @@ fn main() {
         if !t.more {
             break;
         }
-        turns -= 1;
+        left -= 1;
     }
-    s = answer(
-        &line,
-        s,
-        &mut worktree,
-        &mut common,
-        &mut packed,
-        &mut namespace,
-        &mut first,
-        &mut second,
-        &mut out,
-    );
     flush(&out, s.n);
 }

@@ -107,6 +107,11 @@ pub fn put_refused(out: &mut [u8; ROOM], n: usize, number: usize) -> usize {
     put_number(out, at, number)
 }
 
+pub fn put_refused_line(out: &mut [u8; ROOM], n: usize, number: usize) -> usize {
+    let at = put_refused(out, n, number);
+    put(out, at, b"\n")
+}
+
 // The answer to a line that has no right shape.
 pub fn put_unknown(out: &mut [u8; ROOM], n: usize) -> usize {
     put(out, n, b"?\n")

@@ -8,6 +8,7 @@ use crate::output::put_id;
 use crate::output::put_line;
 use crate::output::put_name;
 use crate::output::put_refused;
+use crate::output::put_refused_line;
 use crate::output::put_unknown;
 use blocks::block::LONGEST_CONTENT;
 use blocks::decode::TargetKind;
@@ -87,10 +88,7 @@ fn put_made(out: &mut [u8; ROOM], n: usize, verdict: Verdict, name: Name) -> usi
             let name_end = put_name(out, word_end, name);
             put(out, name_end, b"\n")
         }
-        Verdict::Refused(why) => {
-            let at = put_refused(out, n, name_number(why));
-            put(out, at, b"\n")
-        }
+        Verdict::Refused(why) => put_refused_line(out, n, name_number(why)),
     }
 }
 
@@ -125,7 +123,7 @@ fn ask_content(s: &[u8], out: &mut [u8; ROOM], n: usize) -> usize {
 }
 
 // A question about one byte string.
-pub fn ask_one(word: &[u8], s: &[u8], out: &mut [u8; ROOM], n: usize) -> usize {
+pub fn ask_of_one(word: &[u8], s: &[u8], out: &mut [u8; ROOM], n: usize) -> usize {
     if equal(word, b"wellformed") {
         return put_yes_no(out, n, well_formed(s));
     }
@@ -148,7 +146,7 @@ pub fn ask_one(word: &[u8], s: &[u8], out: &mut [u8; ROOM], n: usize) -> usize {
 }
 
 // A question about two.
-pub fn ask_two(word: &[u8], s: &[u8], t: &[u8], out: &mut [u8; ROOM], n: usize) -> usize {
+pub fn ask_of_two(word: &[u8], s: &[u8], t: &[u8], out: &mut [u8; ROOM], n: usize) -> usize {
     if equal(word, b"order") {
         return put_order(out, n, compare(s, t));
     }

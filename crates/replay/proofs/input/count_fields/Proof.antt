@@ -5,8 +5,6 @@ use native.Mathlib.Omega.{arith}
 use borrow.Author.Needs.{needs}
 use Rattle.replay.proofs.input.count_fields.Statement.{statement}
 use Rattle.replay.proofs.input.count_fields.Tie as tie
-use Rattle.replay.proofs.input.count_fields.Reads as reads
-use Rattle.replay.proofs.input.count_fields.Lts as lts
 
 abbrev Inv-loop : tie.InvT-loop
 Inv-loop line count₀ is-empty₀ i₀ count is-empty i = (i ≤ length line) × (count ≤ i + 1)
@@ -14,39 +12,30 @@ Inv-loop line count₀ is-empty₀ i₀ count is-empty i = (i ≤ length line) �
 abbrev μ-loop : tie.MeasureT-loop
 μ-loop line count₀ is-empty₀ i₀ count is-empty i = length line - i
 
--- src/input.rt:27:5
 loop-holds : tie.Need-loop-holds Inv-loop μ-loop
 loop-holds c = search needs
 
--- src/input.rt:28:12
 shared-slice-read-if1 : tie.Need-shared-slice-read-if1 Inv-loop μ-loop
 shared-slice-read-if1 c = search needs
 
--- src/input.rt:30:17
 returns : tie.Need-returns Inv-loop μ-loop
 returns c = search needs
 
--- src/input.rt:33:13
 add-count : tie.Need-add-count Inv-loop μ-loop
 add-count c = search needs
 
--- src/input.rt:37:9
 add-i : tie.Need-add-i Inv-loop μ-loop
 add-i c = search needs
 
--- src/input.rt:27:5
 loop-less : tie.Need-loop-less Inv-loop μ-loop
 loop-less c = search needs
 
--- src/input.rt:27:5
 loop-again : tie.Need-loop-again Inv-loop μ-loop
 loop-again c = (omega arith, ⊎-elim (λ w. omega (arith, w .2)) (λ w. omega (arith, w .1)) (c .if1 .came))
 
--- src/input.rt:40:9
 returns-2 : tie.Need-returns-2 Inv-loop μ-loop
 returns-2 c = search needs
 
--- src/input.rt:23:1
 returns-3 : tie.Need-returns-3 Inv-loop μ-loop
 returns-3 c = search needs
 

@@ -3,9 +3,6 @@ use native.Mathlib.Omega.{arith}
 use borrow.Author.Needs.{needs}
 use Rattle.replay.proofs.input.decode_pairs.Statement.{statement}
 use Rattle.replay.proofs.input.decode_pairs.Tie as tie
-use Rattle.replay.proofs.input.decode_pairs.Reads as reads
-use Rattle.replay.proofs.input.decode_pairs.Lts as lts
-use Rattle.replay.proofs.input.digit_value.Reads as digit-value-reads
 
 abbrev Inv-loop : tie.InvT-loop
 Inv-loop s to₀ i₀ to i = i ≤ 20481
@@ -13,75 +10,57 @@ Inv-loop s to₀ i₀ to i = i ≤ 20481
 abbrev μ-loop : tie.MeasureT-loop
 μ-loop s to₀ i₀ to i = 20481 - i
 
--- src/input.rt:118:5
 loop-holds : tie.Need-loop-holds Inv-loop μ-loop
 loop-holds c = search needs
 
--- src/input.rt:119:23
 mul-if1 : tie.Need-mul-if1 Inv-loop μ-loop
 mul-if1 c = search needs
 
--- src/input.rt:119:23
 add-if1 : tie.Need-add-if1 Inv-loop μ-loop
 add-if1 c = search needs
 
--- src/input.rt:120:13
 returns : tie.Need-returns Inv-loop μ-loop
 returns c = search needs
 
--- src/input.rt:122:31
 mul-digit-value : tie.Need-mul-digit-value Inv-loop μ-loop
 mul-digit-value c = search needs
 
--- src/input.rt:122:29
 shared-slice-read-digit-value : tie.Need-shared-slice-read-digit-value Inv-loop μ-loop
 shared-slice-read-digit-value c = search needs
 
--- src/input.rt:122:17
 digit-value-requires : tie.Need-digit-value-requires Inv-loop μ-loop
 digit-value-requires c κs = search needs
 
--- src/input.rt:122:17
 mul-to : tie.Need-mul-to Inv-loop μ-loop
 mul-to c = search needs
 
--- src/input.rt:122:60
 mul-digit-value-2 : tie.Need-mul-digit-value-2 Inv-loop μ-loop
 mul-digit-value-2 c = search needs
 
--- src/input.rt:122:60
 add-digit-value : tie.Need-add-digit-value Inv-loop μ-loop
 add-digit-value c = search needs
 
--- src/input.rt:122:58
 shared-slice-read-digit-value-2 : tie.Need-shared-slice-read-digit-value-2 Inv-loop μ-loop
 shared-slice-read-digit-value-2 c = search needs
 
--- src/input.rt:122:46
 digit-value-requires-2 : tie.Need-digit-value-requires-2 Inv-loop μ-loop
 digit-value-requires-2 c κs = search needs
 
--- src/input.rt:122:17
 add-to : tie.Need-add-to Inv-loop μ-loop
 add-to c = search needs
 
--- src/input.rt:122:9
 element-write-to : tie.Need-element-write-to Inv-loop μ-loop
 element-write-to c = search needs
 
--- src/input.rt:123:9
 add-i : tie.Need-add-i Inv-loop μ-loop
 add-i c = search needs
 
--- src/input.rt:118:5
 loop-less : tie.Need-loop-less Inv-loop μ-loop
 loop-less c = search needs
 
--- src/input.rt:118:5
 loop-again : tie.Need-loop-again Inv-loop μ-loop
 loop-again c = search needs
 
--- src/input.rt:116:1
 returns-2 : tie.Need-returns-2 Inv-loop μ-loop
 returns-2 c = search needs
 

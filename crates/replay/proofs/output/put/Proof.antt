@@ -4,9 +4,6 @@ use native.Mathlib.Omega.{arith}
 use borrow.Author.Needs.{needs}
 use Rattle.replay.proofs.output.put.Statement.{statement}
 use Rattle.replay.proofs.output.put.Tie as tie
-use Rattle.replay.proofs.output.put.Reads as reads
-use Rattle.replay.proofs.output.put.Lts as lts
-use Rattle.replay.proofs.output.put_byte.Reads as put-byte-reads
 
 abbrev Inv-loop : tie.InvT-loop
 Inv-loop out₀ n s at₀ i₀ out at i = i ≤ length s
@@ -14,31 +11,24 @@ Inv-loop out₀ n s at₀ i₀ out at i = i ≤ length s
 abbrev μ-loop : tie.MeasureT-loop
 μ-loop out₀ n s at₀ i₀ out at i = length s - i
 
--- src/output.rt:28:5
 loop-holds : tie.Need-loop-holds Inv-loop μ-loop
 loop-holds c = search needs
 
--- src/output.rt:29:32
 shared-slice-read-put-byte : tie.Need-shared-slice-read-put-byte Inv-loop μ-loop
 shared-slice-read-put-byte c = search needs
 
--- src/output.rt:29:9
 put-byte-requires : tie.Need-put-byte-requires Inv-loop μ-loop
 put-byte-requires c κs = search needs
 
--- src/output.rt:30:9
 add-i : tie.Need-add-i Inv-loop μ-loop
 add-i c = search needs
 
--- src/output.rt:28:5
 loop-less : tie.Need-loop-less Inv-loop μ-loop
 loop-less c = search needs
 
--- src/output.rt:28:5
 loop-again : tie.Need-loop-again Inv-loop μ-loop
 loop-again c = search needs
 
--- src/output.rt:25:1
 returns : tie.Need-returns Inv-loop μ-loop
 returns c = search needs
 
