@@ -1,7 +1,12 @@
 // The fields of a line, and what a field says.
 use names::bytes::equal;
-ghost use Prim.Native.Nat.{_≤_, _<_};
-ghost use lib.ListN.{length};
+ghost use mathlib.Core.Path.{_≡_};
+ghost use mathlib.Core.List.{_∷_, []};
+ghost use mathlib.Core.Option.{none};
+ghost use Prim.Native.Nat.{_+_, _*_, _/_, _≤_, _<_};
+ghost use lib.ListN.{length, take};
+ghost use Rattle.names.specs.Bytes.{every};
+ghost use Rattle.replay.specs.Input.{most, is-digit, digit-value, pairs, is-pairs, Reads, largest, number-behind, number-in, read-in};
 
 // The longest byte string: 40 blocks and one byte.
 pub const MOST: usize = 20481;
@@ -83,14 +88,18 @@ pub fn fourth_field(s: &[u8]) -> &[u8] {
     third_field(behind_first(s))
 }
 
-fn is_digit(b: u8) -> bool {
+fn is_digit(b: u8) -> bool
+    ensures { λ r. ⌜ r ≡ is-digit b ⌝ }
+{
     match b {
         b'0'..=b'9' | b'a'..=b'f' => true,
         _ => false,
     }
 }
 
-fn all_digits(s: &[u8]) -> bool {
+fn all_digits(s: &[u8]) -> bool
+    ensures { λ r. ⌜ r ≡ every is-digit (now (s .entry)) ⌝ }
+{
     let mut i: usize = 0;
     while i < s.len() {
         if !is_digit(s[i]) {
@@ -103,7 +112,7 @@ fn all_digits(s: &[u8]) -> bool {
 
 // What a digit stands for: 0 for any other byte.
 fn digit_value(b: u8) -> u8
-    ensures { λ r. ⌜ r < 16 ⌝ }
+    ensures { λ r. ⌜ (r ≡ digit-value b) × (r < 16) ⌝ }
 {
     match b {
         b'0'..=b'9' => b - 48,
@@ -112,20 +121,23 @@ fn digit_value(b: u8) -> u8
     }
 }
 
-// Puts the bytes that pairs of digits stand for at the start of `to`, as many as it holds.
-fn decode_pairs(s: &[u8], to: &mut [u8; MOST]) {
+// Puts the bytes that pairs of digits stand for at the start of `to`.
+fn decode_pairs(s: &[u8], to: &mut [u8])
+    requires { ⌜ length (now s) / 2 ≤ length (now to) ⌝ }
+    ensures { λ _. ⌜ take (length (now (s .entry)) / 2) (now (to .exit)) ≡ pairs (now (s .entry)) ⌝ }
+{
+    let count = s.len() / 2;
     let mut i: usize = 0;
-    while i < MOST {
-        if s.len() <= i * 2 + 1 {
-            return;
-        }
+    while i < count {
         to[i] = digit_value(s[i * 2]) * 16 + digit_value(s[i * 2 + 1]);
         i += 1;
     }
 }
 
 // Whether a field is one or more pairs of digits, and not too many.
-fn is_pairs(s: &[u8]) -> bool {
+fn is_pairs(s: &[u8]) -> bool
+    ensures { λ r. ⌜ r ≡ is-pairs (now (s .entry)) ⌝ }
+{
     if s.len() == 0 {
         return false;
     }
@@ -139,7 +151,9 @@ fn is_pairs(s: &[u8]) -> bool {
 }
 
 // The byte string that a field gives. Where it gives none, `to` stays as it is.
-pub fn read_bytes(s: &[u8], to: &mut [u8; MOST]) -> Given {
+pub fn read_bytes(s: &[u8], to: &mut [u8; MOST]) -> Given
+    ensures { λ r. ⌜ Reads (now (s .entry)) (now (to .entry)) (now (to .exit)) r ⌝ }
+{
     if equal(s, b"-") {
         return Given {
             ok: true,
@@ -174,7 +188,9 @@ pub fn read_optional(s: &[u8], to: &mut [u8; MOST]) -> Given {
     read_bytes(s, to)
 }
 
-fn no_number() -> Number {
+fn no_number() -> Number
+    ensures { λ r. ⌜ read-in r ≡ none ⌝ }
+{
     Number {
         ok: false,
         value: 0,
@@ -182,7 +198,9 @@ fn no_number() -> Number {
 }
 
 // The number with one more decimal digit behind it.
-fn with_digit(value: usize, b: u8) -> Number {
+fn with_digit(value: usize, b: u8) -> Number
+    ensures { λ r. ⌜ read-in r ≡ number-behind value (b ∷ []) ⌝ }
+{
     match b {
         b'0'..=b'9' => {
             let d = (b - 48) as usize;
@@ -198,7 +216,9 @@ fn with_digit(value: usize, b: u8) -> Number {
     }
 }
 
-pub fn read_number(s: &[u8]) -> Number {
+pub fn read_number(s: &[u8]) -> Number
+    ensures { λ r. ⌜ read-in r ≡ number-in (now (s .entry)) ⌝ }
+{
     if s.len() == 0 {
         return no_number();
     }

@@ -1,26 +1,25 @@
-use Prim.Native.Nat.{_≤_, _-_}
+-- The invariant: what was decoded, and what is left to decode.
+use mathlib.Core.Path.{_≡_}
+use mathlib.Core.List.{_++_}
+use Prim.Native.Nat.{_+_}
+use lib.ListN.{take, drop, length-set}
+use Rattle.replay.specs.Input.{pairs}
+use Rattle.replay.proofs.Digits.{pair-more, pairs-end}
+use lib.ListN.{length}
+use Prim.Native.Nat.{_≤_, _-_, _*_}
 use native.Mathlib.Omega.{arith}
 use borrow.Author.Needs.{needs}
 use Rattle.replay.proofs.input.decode_pairs.Statement.{statement}
 use Rattle.replay.proofs.input.decode_pairs.Tie as tie
 
 abbrev Inv-loop : tie.InvT-loop
-Inv-loop s to₀ i₀ to i = i ≤ 20481
+Inv-loop s to₀ count i₀ to i = (i ≤ count) × (length to ≡ length to₀) × (pairs s ≡ take i to ++ pairs (drop (i * 2) s))
 
 abbrev μ-loop : tie.MeasureT-loop
-μ-loop s to₀ i₀ to i = 20481 - i
+μ-loop s to₀ count i₀ to i = count - i
 
 loop-holds : tie.Need-loop-holds Inv-loop μ-loop
 loop-holds c = search needs
-
-mul-if1 : tie.Need-mul-if1 Inv-loop μ-loop
-mul-if1 c = search needs
-
-add-if1 : tie.Need-add-if1 Inv-loop μ-loop
-add-if1 c = search needs
-
-returns : tie.Need-returns Inv-loop μ-loop
-returns c = search needs
 
 mul-digit-value : tie.Need-mul-digit-value Inv-loop μ-loop
 mul-digit-value c = search needs
@@ -49,8 +48,8 @@ digit-value-requires-2 c κs = search needs
 add-to : tie.Need-add-to Inv-loop μ-loop
 add-to c = search needs
 
-element-write-to : tie.Need-element-write-to Inv-loop μ-loop
-element-write-to c = search needs
+slice-write-to : tie.Need-slice-write-to Inv-loop μ-loop
+slice-write-to c = search needs
 
 add-i : tie.Need-add-i Inv-loop μ-loop
 add-i c = search needs
@@ -59,10 +58,23 @@ loop-less : tie.Need-loop-less Inv-loop μ-loop
 loop-less c = search needs
 
 loop-again : tie.Need-loop-again Inv-loop μ-loop
-loop-again c = search needs
+loop-again c =
+    let at = c .before .before .before .before .before in
+    let s = at .before .before .before .args .s .now in
+    let x = c .before .before .digit-value .result in
+    let y = c .digit-value2 .result in
+    let p = c .before .before .digit-value .ensures .0 in
+    let q = c .digit-value2 .ensures .0 in
+    (omega arith, simp length-set (at .loop .inv .1), pair-more s (at .loop .to) (at .loop .i) (x * 16 + y) (omega arith) (omega arith) (cc) (at .loop .inv .2))
 
-returns-2 : tie.Need-returns-2 Inv-loop μ-loop
-returns-2 c = search needs
+same-length : tie.Need-same-length Inv-loop μ-loop
+same-length c = search needs
+
+returns : tie.Need-returns Inv-loop μ-loop
+returns c =
+    let at = c .before in
+    let s = at .before .before .before .args .s .now in
+    pairs-end s (at .loop .to) (at .loop .i) (omega arith) (at .loop .inv .2)
 
 pub decode-pairs-spec : {M : Type 1} → statement M
 decode-pairs-spec =
@@ -71,9 +83,6 @@ decode-pairs-spec =
     Inv-loop
     μ-loop
     loop-holds
-    mul-if1
-    add-if1
-    returns
     mul-digit-value
     shared-slice-read-digit-value
     digit-value-requires
@@ -83,8 +92,9 @@ decode-pairs-spec =
     shared-slice-read-digit-value-2
     digit-value-requires-2
     add-to
-    element-write-to
+    slice-write-to
     add-i
     loop-less
     loop-again
-    returns-2)
+    same-length
+    returns)
