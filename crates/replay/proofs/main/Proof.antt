@@ -1,4 +1,4 @@
-use native.Mathlib.Omega.{arith}
+-- Nothing has to hold from turn to turn; the measure is the number of reads left.
 use borrow.Author.Needs.{needs}
 use Rattle.replay.proofs.main.Statement.{statement}
 use Rattle.replay.proofs.main.Tie as tie

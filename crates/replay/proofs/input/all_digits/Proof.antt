@@ -1,13 +1,13 @@
 -- The invariant: every byte passed is a digit.
 use mathlib.Core.Path.{_≡_}
-use borrow.Author.Tests.{not-true, not-false}
 use Prim.Native.Nat.{_≤_, _-_}
+use native.Mathlib.Omega.{arith}
 use lib.ListN.{length, drop}
+use borrow.Author.Tests.{not-true, not-false}
+use borrow.Author.Needs.{needs}
 use Rattle.names.specs.Bytes.{every}
 use Rattle.names.proofs.Walks.{every-at, every-end}
 use Rattle.replay.specs.Input.{is-digit}
-use native.Mathlib.Omega.{arith}
-use borrow.Author.Needs.{needs}
 use Rattle.replay.proofs.input.all_digits.Statement.{statement}
 use Rattle.replay.proofs.input.all_digits.Tie as tie
 

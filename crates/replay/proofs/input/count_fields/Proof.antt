@@ -1,7 +1,8 @@
+-- The invariant: there are no more fields than bytes passed, and one.
 use mathlib.Core.Logic.{⊎-elim}
 use Prim.Native.Nat.{_≤_, _-_, _+_}
-use lib.ListN.{length}
 use native.Mathlib.Omega.{arith}
+use lib.ListN.{length}
 use borrow.Author.Needs.{needs}
 use Rattle.replay.proofs.input.count_fields.Statement.{statement}
 use Rattle.replay.proofs.input.count_fields.Tie as tie

@@ -1,14 +1,12 @@
 -- The invariant: what was decoded, and what is left to decode.
 use mathlib.Core.Path.{_≡_}
 use mathlib.Core.List.{_++_}
-use Prim.Native.Nat.{_+_}
-use lib.ListN.{take, drop, length-set}
+use Prim.Native.Nat.{_+_, _≤_, _-_, _*_}
+use native.Mathlib.Omega.{arith}
+use lib.ListN.{take, drop, length-set, length}
+use borrow.Author.Needs.{needs}
 use Rattle.replay.specs.Input.{pairs}
 use Rattle.replay.proofs.Digits.{pair-more, pairs-end}
-use lib.ListN.{length}
-use Prim.Native.Nat.{_≤_, _-_, _*_}
-use native.Mathlib.Omega.{arith}
-use borrow.Author.Needs.{needs}
 use Rattle.replay.proofs.input.decode_pairs.Statement.{statement}
 use Rattle.replay.proofs.input.decode_pairs.Tie as tie
 

@@ -1,7 +1,7 @@
 -- By range.
-use Rattle.replay.proofs.Digits.{value-low, value-high, value-below, value-between, value-above}
 use native.Mathlib.Omega.{arith}
 use borrow.Author.Needs.{needs}
+use Rattle.replay.proofs.Digits.{value-low, value-high, value-below, value-between, value-above}
 use Rattle.replay.proofs.input.digit_value.Statement.{statement}
 use Rattle.replay.proofs.input.digit_value.Tie as tie
 

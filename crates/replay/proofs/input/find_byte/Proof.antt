@@ -1,6 +1,6 @@
+-- The invariant: i is within the slice.
 use Prim.Native.Nat.{_≤_, _-_}
 use lib.ListN.{length}
-use native.Mathlib.Omega.{arith}
 use borrow.Author.Needs.{needs}
 use Rattle.replay.proofs.input.find_byte.Statement.{statement}
 use Rattle.replay.proofs.input.find_byte.Tie as tie

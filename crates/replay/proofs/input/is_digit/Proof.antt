@@ -1,7 +1,6 @@
 -- By range.
-use Rattle.replay.proofs.Digits.{digit-low, digit-high, digit-below, digit-between, digit-above}
 use native.Mathlib.Omega.{arith}
-use borrow.Author.Needs.{needs}
+use Rattle.replay.proofs.Digits.{digit-low, digit-high, digit-below, digit-between, digit-above}
 use Rattle.replay.proofs.input.is_digit.Statement.{statement}
 use Rattle.replay.proofs.input.is_digit.Tie as tie
 

@@ -1,8 +1,7 @@
 -- Test by test.
 use borrow.Author.Tests.{eq-eqb, ne-eqb, le-leb, lt-leb}
-use Rattle.replay.specs.Input.{is-pairs}
-use native.Mathlib.Omega.{arith}
 use borrow.Author.Needs.{needs}
+use Rattle.replay.specs.Input.{is-pairs}
 use Rattle.replay.proofs.input.is_pairs.Statement.{statement}
 use Rattle.replay.proofs.input.is_pairs.Tie as tie
 

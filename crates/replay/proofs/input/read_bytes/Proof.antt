@@ -1,10 +1,10 @@
 -- Test by test.
 use mathlib.Core.Path.{refl, sym, _∙_}
 use mathlib.Core.Bool.{true≢false}
-use borrow.Author.Tests.{not-true, not-false}
-use Rattle.replay.proofs.Digits.{not-too-long, is-empty, is-none, is-some}
 use native.Mathlib.Omega.{arith}
+use borrow.Author.Tests.{not-true, not-false}
 use borrow.Author.Needs.{needs}
+use Rattle.replay.proofs.Digits.{not-too-long, is-empty, is-none, is-some}
 use Rattle.replay.proofs.input.read_bytes.Statement.{statement}
 use Rattle.replay.proofs.input.read_bytes.Tie as tie
 

@@ -1,13 +1,12 @@
 -- The invariant: the number is the one that the digits left give, behind the value so far.
 use mathlib.Core.Path.{_≡_, refl, _∙_}
-use lib.ListN.{drop}
-use borrow.Author.Tests.{eq-eqb, ne-eqb, not-true, not-false}
-use Rattle.replay.specs.Input.{largest, number-behind, number-in}
-use Rattle.replay.proofs.Decimals.{stops-at, steps-at, ends-at}
-use lib.ListN.{length}
 use Prim.Native.Nat.{_≤_, _-_}
 use native.Mathlib.Omega.{arith}
+use lib.ListN.{drop, length}
+use borrow.Author.Tests.{eq-eqb, ne-eqb, not-true, not-false}
 use borrow.Author.Needs.{needs}
+use Rattle.replay.specs.Input.{largest, number-behind, number-in}
+use Rattle.replay.proofs.Decimals.{stops-at, steps-at, ends-at}
 use Rattle.replay.proofs.input.read_number.Statement.{statement}
 use Rattle.replay.proofs.input.read_number.Tie as tie
 

@@ -4,10 +4,10 @@ use mathlib.Core.Bool.{false}
 use mathlib.Core.List.{[]}
 use mathlib.Core.Logic.{⊎-elim}
 use Prim.Native.Nat.{_+_, _*_, _-_}
-use Rattle.replay.specs.Input.{is-decimal}
-use Rattle.replay.proofs.Decimals.{decimal, decimal-below, decimal-above, no-digit, too-large, goes-on, nothing-behind}
 use native.Mathlib.Omega.{arith}
 use borrow.Author.Needs.{needs}
+use Rattle.replay.specs.Input.{is-decimal}
+use Rattle.replay.proofs.Decimals.{decimal, decimal-below, decimal-above, no-digit, too-large, goes-on, nothing-behind}
 use Rattle.replay.proofs.input.with_digit.Statement.{statement}
 use Rattle.replay.proofs.input.with_digit.Tie as tie
 

@@ -1,4 +1,4 @@
-use native.Mathlib.Omega.{arith}
+-- Nothing has to hold from step to step; the measure is the number of steps left.
 use borrow.Author.Needs.{needs}
 use Rattle.replay.proofs.listing.put_steps.Statement.{statement}
 use Rattle.replay.proofs.listing.put_steps.Tie as tie

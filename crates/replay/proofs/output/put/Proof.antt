@@ -1,6 +1,6 @@
+-- The invariant: i is within what is put out.
 use Prim.Native.Nat.{_≤_, _-_}
 use lib.ListN.{length}
-use native.Mathlib.Omega.{arith}
 use borrow.Author.Needs.{needs}
 use Rattle.replay.proofs.output.put.Statement.{statement}
 use Rattle.replay.proofs.output.put.Tie as tie
