@@ -169,7 +169,7 @@ fn scope_of(namespace: &[u8], has_namespace: bool) -> Scope {
     }
 }
 
-// One step from any positions. A refused namespace is answered as the opening would.
+// One step from any positions. The opening is asked only why a namespace is refused: in regions of a wrong size 1 is the step's.
 pub fn ask_step<'a>(
     kept: Kept,
     worktree: &'a [u8],
