@@ -1,0 +1,3 @@
+-- Laws of fields.
+pub mod Digits
+pub mod Decimals

@@ -1,0 +1,63 @@
+-- The invariant: i is within what is put out.
+use Prim.Native.Nat.{_≤_, _-_}
+use lib.ListN.{length}
+use borrow.Author.Needs.{needs}
+use Rattle.replay.proofs.output.put_pairs.Statement.{statement}
+use Rattle.replay.proofs.output.put_pairs.Tie as tie
+
+abbrev Inv-loop : tie.InvT-loop
+Inv-loop out₀ n s at₀ i₀ out at i = i ≤ length s
+
+abbrev μ-loop : tie.MeasureT-loop
+μ-loop out₀ n s at₀ i₀ out at i = length s - i
+
+loop-holds : tie.Need-loop-holds Inv-loop μ-loop
+loop-holds c = search needs
+
+shared-slice-read-high-digit : tie.Need-shared-slice-read-high-digit Inv-loop μ-loop
+shared-slice-read-high-digit c = search needs
+
+high-digit-requires : tie.Need-high-digit-requires Inv-loop μ-loop
+high-digit-requires c κs = search needs
+
+put-byte-requires : tie.Need-put-byte-requires Inv-loop μ-loop
+put-byte-requires c κs = search needs
+
+shared-slice-read-low-digit : tie.Need-shared-slice-read-low-digit Inv-loop μ-loop
+shared-slice-read-low-digit c = search needs
+
+low-digit-requires : tie.Need-low-digit-requires Inv-loop μ-loop
+low-digit-requires c κs = search needs
+
+put-byte-requires-2 : tie.Need-put-byte-requires-2 Inv-loop μ-loop
+put-byte-requires-2 c κs = search needs
+
+add-i : tie.Need-add-i Inv-loop μ-loop
+add-i c = search needs
+
+loop-less : tie.Need-loop-less Inv-loop μ-loop
+loop-less c = search needs
+
+loop-again : tie.Need-loop-again Inv-loop μ-loop
+loop-again c = search needs
+
+returns : tie.Need-returns Inv-loop μ-loop
+returns c = search needs
+
+pub put-pairs-spec : {M : Type 1} → statement M
+put-pairs-spec =
+    tie.close
+    (tie.spec
+    Inv-loop
+    μ-loop
+    loop-holds
+    shared-slice-read-high-digit
+    high-digit-requires
+    put-byte-requires
+    shared-slice-read-low-digit
+    low-digit-requires
+    put-byte-requires-2
+    add-i
+    loop-less
+    loop-again
+    returns)

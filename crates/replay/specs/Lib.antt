@@ -1,0 +1,2 @@
+-- What fields say.
+pub mod Input
