@@ -1,0 +1,468 @@
+//! Generated snapshots that can stand on disc, and questions about them.
+use crate::{
+    names, oracle,
+    rng::Rng,
+    snapshot::{Bytes, Case, Entry, Group, LIMIT, Loose, Packed, Question, Snapshot, can_stand, stand_together},
+};
+
+/// How large cases are.
+#[derive(Clone, Copy)]
+pub struct Size {
+    /// Blocks a region, about.
+    pub blocks: usize,
+    /// Names asked for.
+    pub names: usize,
+}
+
+struct Maker<'a> {
+    rng: &'a mut Rng,
+    size: Size,
+    s: Snapshot,
+    /// The namespace's expansion, empty where there is none.
+    expansion: Bytes,
+    /// Names worth asking for.
+    asked: Vec<Bytes>,
+}
+
+pub fn case(rng: &mut Rng, size: Size) -> Case {
+    let namespace = rng.percent(45).then(|| names::namespace(rng));
+    let expansion = namespace.as_deref().and_then(oracle::expansion).unwrap_or_default();
+    let mut m = Maker {
+        rng,
+        size,
+        s: Snapshot::default(),
+        expansion,
+        asked: Vec::new(),
+    };
+    m.snapshot();
+    m.case(namespace)
+}
+
+pub fn id(rng: &mut Rng) -> Bytes {
+    let digits = if rng.percent(80) {
+        b"0123456789abcdef"
+    } else {
+        b"0123456789aBCDeF"
+    };
+    (0..40).map(|_| digits[rng.below(16)]).collect()
+}
+
+/// What a file may hold besides a target of the snapshot.
+pub fn odd_content(rng: &mut Rng) -> Bytes {
+    let id = id(rng);
+    match rng.below(26) {
+        0 => b"".to_vec(),
+        1 => b"ref:HEAD".to_vec(),
+        2 => b"ref: ".to_vec(),
+        3 => b"ref:   \n".to_vec(),
+        4 => id[..39].to_vec(),
+        5 => [&id[..], b"a"].concat(),
+        6 => [&id[..], b"z"].concat(),
+        7 => [&id[..39], b"g"].concat(),
+        8..=10 => b"ref: refs/heads/.invalid\n".to_vec(),
+        11 => b"ref: refs/heads/.invalid/a".to_vec(),
+        12 => b"ref: main".to_vec(),
+        13 => b"ref: refs/heads/a.lock".to_vec(),
+        14 => b"ref: refs/heads/a b".to_vec(),
+        15 => b"ref: HEAD ".to_vec(),
+        16 => b"ref: @".to_vec(),
+        17 => b"REF: HEAD".to_vec(),
+        18 => b"ref:\tHEAD".to_vec(),
+        19 => b" ref: HEAD".to_vec(),
+        20 => [b"ref: ", &names::bytes(rng)[..]].concat(),
+        21 => names::bytes(rng),
+        22 => [b"\n", &id[..]].concat(),
+        23 => (0..rng.below(LIMIT + 1)).map(|_| rng.below(256) as u8).collect(),
+        24 => [b"ref: refs/heads/", &[b'y'].repeat(230)[..]].concat(),
+        _ => [&id[..], b"\0"].concat(),
+    }
+}
+
+fn symbolic(rng: &mut Rng, target: &[u8]) -> Bytes {
+    let before = rng.pick(&["ref: ", "ref: ", "ref: ", "ref:  ", "ref:    "]);
+    let after = rng.pick(&["\n", "\n", "\n", "", "\r\n", "\0", "\0x", "\rx", "\nx y\n", " \n"]);
+    let after = if after == " \n" && rng.percent(80) { "\n" } else { after };
+    [before.as_bytes(), target, after.as_bytes()].concat()
+}
+
+fn object(rng: &mut Rng) -> Bytes {
+    let after = rng.pick(&["\n", "\n", "\n", "", "\r\n", "\0", "z", " x", "\nx"]);
+    [&id(rng)[..], after.as_bytes()].concat()
+}
+
+impl Maker<'_> {
+    fn snapshot(&mut self) {
+        if self.rng.percent(55) {
+            self.s.common = Some(Vec::new());
+            if self.rng.percent(35) {
+                self.s.nested = Some(b"w".to_vec());
+            }
+        }
+        if self.rng.percent(80) {
+            self.s.packed = Some(Vec::new());
+        }
+        for _ in 0..self.rng.below(3) {
+            self.chain();
+        }
+        for _ in 0..self.rng.below(self.size.blocks) {
+            self.loose_file();
+        }
+        for _ in 0..self.rng.below(self.size.blocks) {
+            self.packed_record();
+        }
+        for _ in 0..self.rng.below(3) {
+            let (side, name) = (self.rng.percent(50), names::held(self.rng, &self.expansion));
+            if can_stand(&name) {
+                self.s.empty.push((side, name));
+            }
+        }
+        self.sort_packed();
+        if self.rng.percent(10) {
+            self.make_unfit();
+        }
+        self.make_standing();
+    }
+
+    /// References that lead one to the next, at most six symbolic ones, and then an end.
+    fn chain(&mut self) {
+        let length = 1 + self.rng.below(6);
+        let names: Vec<Bytes> = (0..=length).map(|_| names::any(self.rng)).collect();
+        for i in 0..length {
+            let target = self.target(&names[i + 1]);
+            let content = symbolic(self.rng, &target);
+            self.place(&names[i], Loose::File(content));
+        }
+        self.asked.push(names[0].clone());
+        self.asked.push(names[self.rng.below(length)].clone());
+        self.end(&names, length);
+    }
+
+    fn end(&mut self, names: &[Bytes], length: usize) {
+        let last = &names[length];
+        match self.rng.below(20) {
+            0..=6 => {
+                let again = self.rng.below(length);
+                let target = self.target(&names[again]);
+                let content = symbolic(self.rng, &target);
+                self.place(last, Loose::File(content));
+            }
+            7..=9 => {
+                let content = object(self.rng);
+                self.place(last, Loose::File(content));
+            }
+            10..=14 => {
+                let name = names::inside(self.rng, &self.expansion, packed_form(last));
+                self.record(name);
+            }
+            15 => self.place(last, Loose::Unreadable),
+            16 | 17 => {
+                let content = odd_content(self.rng);
+                self.place(last, Loose::File(content));
+            }
+            _ => {}
+        }
+    }
+
+    /// How a file writes the name it leads to.
+    fn target(&mut self, name: &[u8]) -> Bytes {
+        let name = match self.rng.below(12) {
+            0 => name.strip_prefix(b"refs/").unwrap_or(name).to_vec(),
+            1 if name.starts_with(b"refs/") => [b"main-worktree/", name].concat(),
+            2 if name.starts_with(b"refs/") => [b"worktrees/w/", name].concat(),
+            _ => name.to_vec(),
+        };
+        if self.rng.percent(50) {
+            name
+        } else {
+            [&self.expansion[..], &name].concat()
+        }
+    }
+
+    /// Put a file where search reads the name, mostly.
+    fn place(&mut self, name: &[u8], what: Loose) {
+        let (in_worktree, path) = home(name);
+        let path = if self.rng.percent(92) {
+            [&self.expansion[..], path].concat()
+        } else {
+            path.to_vec()
+        };
+        let in_worktree = in_worktree ^ self.rng.percent(5);
+        self.add(in_worktree, Entry { name: path, what });
+    }
+
+    fn loose_file(&mut self) {
+        let name = match self.rng.below(10) {
+            0..=2 => match self.any_held() {
+                Some(name) if self.rng.percent(80) => name,
+                Some(name) => [&name[..], b"/", names::part(self.rng)].concat(),
+                None => names::held(self.rng, &self.expansion),
+            },
+            _ => names::held(self.rng, &self.expansion),
+        };
+        let what = match self.rng.below(20) {
+            0 | 1 => Loose::Unreadable,
+            2..=4 => Loose::File(odd_content(self.rng)),
+            5..=8 => {
+                let name = self.any_held().unwrap_or_else(|| names::any(self.rng));
+                let target = self.target(&name);
+                Loose::File(symbolic(self.rng, &target))
+            }
+            _ => Loose::File(object(self.rng)),
+        };
+        let in_worktree = self.rng.percent(50);
+        self.add(in_worktree, Entry { name, what });
+    }
+
+    fn any_held(&mut self) -> Option<Bytes> {
+        let loose = self.s.worktree.iter().chain(self.s.common.iter().flatten());
+        let all: Vec<&Bytes> = loose
+            .map(|e| &e.name)
+            .chain(self.s.packed.iter().flatten().filter_map(name_of))
+            .collect();
+        (!all.is_empty()).then(|| all[self.rng.below(all.len())].clone())
+    }
+
+    fn add(&mut self, in_worktree: bool, mut e: Entry) {
+        if let Loose::File(content) = &mut e.what {
+            content.truncate(LIMIT);
+        }
+        let entries = match &mut self.s.common {
+            Some(common) if !in_worktree => common,
+            _ => &mut self.s.worktree,
+        };
+        entries.push(e);
+        if entries.len() > self.size.blocks || !stand_together(entries) {
+            entries.pop();
+        }
+    }
+
+    fn packed_record(&mut self) {
+        let name = match self.any_held() {
+            Some(name) if self.rng.percent(35) => name,
+            Some(name) if self.rng.percent(10) => [&name[..], b"/", names::part(self.rng)].concat(),
+            _ => {
+                let name = names::any(self.rng);
+                names::inside(self.rng, &self.expansion, name)
+            }
+        };
+        self.record(name);
+    }
+
+    /// Add a record if its name is complete.
+    fn record(&mut self, name: Bytes) {
+        let peeled = self.rng.percent(35).then(|| id(self.rng));
+        let id = id(self.rng);
+        if let Some(packed) = &mut self.s.packed
+            && packed.len() < self.size.blocks
+            && name.len() <= LIMIT
+            && gix_validate::reference::complete(&name)
+        {
+            packed.push(Packed::Record { name, id, peeled });
+        }
+    }
+
+    fn sort_packed(&mut self) {
+        if let Some(packed) = &mut self.s.packed {
+            packed.sort_by(|a, b| name_of(a).cmp(&name_of(b)));
+            packed.dedup_by(|a, b| name_of(a) == name_of(b));
+        }
+    }
+
+    /// Walk errors, packed errors, and packed names that do not rise.
+    fn make_unfit(&mut self) {
+        for _ in 0..self.rng.below(3) {
+            let name = match self.rng.below(8) {
+                0 => b"refs".to_vec(),
+                _ => [rng_dir(self.rng), names::part(self.rng)].concat(),
+            };
+            // The files of a nested worktree stand in common too, where no walk below refs/ meets them.
+            let in_worktree = self.s.nested.is_none() && self.rng.percent(50);
+            self.add(
+                in_worktree,
+                Entry {
+                    name,
+                    what: Loose::Locked,
+                },
+            );
+        }
+        let Some(packed) = &mut self.s.packed else { return };
+        for _ in 0..self.rng.below(3) {
+            let at = self.rng.below(packed.len() + 1);
+            let junk = self.rng.pick(&["junk", "1111 refs/heads/a", "", "z", "refs/heads/a"]);
+            packed.insert(at, Packed::Junk(junk.into()));
+        }
+        if packed.len() > 1 && self.rng.percent(50) {
+            let (i, j) = (self.rng.below(packed.len()), self.rng.below(packed.len()));
+            if self.rng.percent(50) {
+                packed.swap(i, j);
+            } else {
+                packed[i] = packed[j].clone();
+            }
+        }
+    }
+
+    /// A nested worktree has its place in common to itself.
+    fn make_standing(&mut self) {
+        if self.s.nested.is_none() {
+            return;
+        }
+        let ours = |name: &[u8]| name == b"worktrees" || name == b"worktrees/w" || name.starts_with(b"worktrees/w/");
+        self.s.common.iter_mut().for_each(|c| c.retain(|e| !ours(&e.name)));
+        // Mirrored names must fit into a block.
+        self.s
+            .worktree
+            .retain(|e| e.name.len() + b"worktrees/w/".len() <= LIMIT);
+        self.s.empty.retain(|(_, name)| !ours(name));
+    }
+
+    fn case(&mut self, namespace: Option<Bytes>) -> Case {
+        let mut groups = Vec::new();
+        let fit = self.s.fit();
+        if namespace.is_some() {
+            let mut questions = Vec::new();
+            if fit {
+                questions.push(Question::List);
+                self.searches(&mut questions, self.size.names);
+            }
+            groups.push(Group {
+                namespace: namespace.clone(),
+                questions,
+            });
+        }
+        let mut questions = vec![Question::Fit, Question::List];
+        if fit {
+            let few = if namespace.is_some() {
+                self.size.names / 4
+            } else {
+                self.size.names
+            };
+            self.searches(&mut questions, few);
+        }
+        self.on_names(&mut questions);
+        groups.push(Group {
+            namespace: None,
+            questions,
+        });
+        Case {
+            snapshot: self.s.clone(),
+            groups,
+        }
+    }
+
+    fn searches(&mut self, questions: &mut Vec<Question>, count: usize) {
+        for _ in 0..count {
+            let name = match (self.rng.below(10), self.any_held()) {
+                (0..=2, _) if !self.asked.is_empty() => self.asked[self.rng.below(self.asked.len())].clone(),
+                (0..=8, Some(held)) => names::asked(self.rng, &held, &self.expansion),
+                _ => names::any(self.rng),
+            };
+            questions.push(Question::Find(name.clone()));
+            questions.push(Question::Follow(name));
+        }
+    }
+
+    /// Questions about names and contents alone.
+    fn on_names(&mut self, questions: &mut Vec<Question>) {
+        let rng = &mut *self.rng;
+        for _ in 0..2 {
+            let name = if rng.percent(40) {
+                names::any(rng)
+            } else {
+                names::bytes(rng)
+            };
+            questions.push(Question::Category(name.clone()));
+            questions.push(Question::WellFormed(name.clone()));
+            questions.push(Question::Complete(name));
+            questions.push(Question::Pseudo(names::bytes(rng)));
+            questions.push(full_name(rng));
+            questions.push(Question::Expand(if rng.percent(50) {
+                names::namespace(rng)
+            } else {
+                names::bytes(rng)
+            }));
+            questions.push(strip(rng));
+            let content = if rng.percent(60) {
+                odd_content(rng)
+            } else {
+                chosen_content(rng)
+            };
+            questions.push(Question::Decode(content[..content.len().min(LIMIT)].to_vec()));
+        }
+    }
+}
+
+fn rng_dir(rng: &mut Rng) -> &'static [u8] {
+    rng.pick(&["refs/", "refs/heads/", "refs/bisect/", "refs/tags/", "refs/heads/a/"])
+        .as_bytes()
+}
+
+fn chosen_content(rng: &mut Rng) -> Bytes {
+    if rng.percent(40) {
+        return object(rng);
+    }
+    let target = names::any(rng);
+    symbolic(rng, &target)
+}
+
+fn full_name(rng: &mut Rng) -> Question {
+    let category = rng.pick(&oracle::CATEGORIES);
+    let linked = category.starts_with("Linked");
+    Question::FullName {
+        category,
+        worktree: (linked || rng.percent(20)).then(|| {
+            if rng.percent(80) {
+                b"w".to_vec()
+            } else {
+                names::bytes(rng)
+            }
+        }),
+        short: names::bytes(rng),
+    }
+}
+
+fn strip(rng: &mut Rng) -> Question {
+    let namespace = names::namespace(rng);
+    let expansion = oracle::expansion(&namespace).unwrap_or_default();
+    let name = names::bytes(rng);
+    Question::Strip {
+        name: names::inside(rng, &expansion, name),
+        namespace,
+    }
+}
+
+fn name_of(line: &Packed) -> Option<&Bytes> {
+    match line {
+        Packed::Record { name, .. } => Some(name),
+        Packed::Junk(_) => None,
+    }
+}
+
+/// Where search reads the loose file of a name: in the worktree or not, and under which path. A guess that only guides
+/// the generator.
+fn home(name: &[u8]) -> (bool, &[u8]) {
+    let private = |n: &[u8]| {
+        [&b"refs/bisect/"[..], b"refs/worktree/", b"refs/rewritten/"]
+            .iter()
+            .any(|p| n.starts_with(p))
+    };
+    if let Some(rest) = name.strip_prefix(b"main-worktree/") {
+        return (false, rest);
+    }
+    if let Some(rest) = name
+        .strip_prefix(b"worktrees/w/")
+        .or(name.strip_prefix(b"worktrees/v/"))
+    {
+        let shared = rest.starts_with(b"refs/") && !private(rest);
+        return (false, if shared { rest } else { name });
+    }
+    (private(name) || !name.contains(&b'/'), name)
+}
+
+/// Under which name packed is asked. A guess, as `home`.
+fn packed_form(name: &[u8]) -> Bytes {
+    let mut rest = name;
+    for before in [&b"main-worktree/"[..], b"worktrees/w/", b"worktrees/v/"] {
+        rest = rest.strip_prefix(before).unwrap_or(rest);
+    }
+    rest.to_vec()
+}
