@@ -39,6 +39,8 @@ pub struct Counts {
     pub in_namespace: [u64; Question::KINDS.len()],
     /// By kind of question and refusal number; a listing's steps one by one.
     pub refused: [[u64; NUMBERS]; Question::KINDS.len()],
+    /// By kind of question: searches and followings that found nothing.
+    pub absent: [u64; Question::KINDS.len()],
     /// Steps of listings.
     pub steps: u64,
     /// Answers of document 01 alone, and of the stand-in for gix-validate.
@@ -66,6 +68,7 @@ impl Counts {
         for k in 0..self.compared.len() {
             self.compared[k] += o.compared[k];
             self.in_namespace[k] += o.in_namespace[k];
+            self.absent[k] += o.absent[k];
             for n in 0..NUMBERS {
                 self.refused[k][n] += o.refused[k][n];
             }
@@ -86,6 +89,7 @@ impl Counts {
                 let kind = a.question.kind();
                 self.compared[kind] += 1;
                 self.in_namespace[kind] += u64::from(kind < 3 && a.namespace.is_some());
+                self.absent[kind] += u64::from(a.expected.lines == ["absent"]);
                 for number in a.expected.lines.iter().filter_map(|l| text::refusal(l)) {
                     self.refused[kind][number] += 1;
                 }

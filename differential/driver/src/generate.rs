@@ -5,18 +5,22 @@ use crate::{
     snapshot::{Bytes, Case, Entry, Group, LIMIT, Loose, Packed, Question, Snapshot, can_stand, stand_together},
 };
 
-/// How large cases are.
+/// What cases are like.
 #[derive(Clone, Copy)]
-pub struct Size {
-    /// Blocks a region, about.
+pub struct Style {
+    /// Blocks a region, at most.
     pub blocks: usize,
     /// Names asked for.
     pub names: usize,
+    /// How many in a hundred have a namespace.
+    pub namespaces: usize,
+    /// How many files in a hundred may hold more than a plain id or target and LF.
+    pub odd: usize,
 }
 
 struct Maker<'a> {
     rng: &'a mut Rng,
-    size: Size,
+    style: Style,
     s: Snapshot,
     /// The namespace's expansion, empty where there is none.
     expansion: Bytes,
@@ -24,12 +28,12 @@ struct Maker<'a> {
     asked: Vec<Bytes>,
 }
 
-pub fn case(rng: &mut Rng, size: Size) -> Case {
-    let namespace = rng.percent(45).then(|| names::namespace(rng));
+pub fn case(rng: &mut Rng, style: Style) -> Case {
+    let namespace = rng.percent(style.namespaces).then(|| names::namespace(rng));
     let expansion = namespace.as_deref().and_then(oracle::expansion).unwrap_or_default();
     let mut m = Maker {
         rng,
-        size,
+        style,
         s: Snapshot::default(),
         expansion,
         asked: Vec::new(),
@@ -78,14 +82,20 @@ pub fn odd_content(rng: &mut Rng) -> Bytes {
     }
 }
 
-fn symbolic(rng: &mut Rng, target: &[u8]) -> Bytes {
+fn symbolic(rng: &mut Rng, target: &[u8], odd: usize) -> Bytes {
+    if !rng.percent(odd) {
+        return [b"ref: ", target, b"\n"].concat();
+    }
     let before = rng.pick(&["ref: ", "ref: ", "ref: ", "ref:  ", "ref:    "]);
     let after = rng.pick(&["\n", "\n", "\n", "", "\r\n", "\0", "\0x", "\rx", "\nx y\n", " \n"]);
     let after = if after == " \n" && rng.percent(80) { "\n" } else { after };
     [before.as_bytes(), target, after.as_bytes()].concat()
 }
 
-fn object(rng: &mut Rng) -> Bytes {
+fn object(rng: &mut Rng, odd: usize) -> Bytes {
+    if !rng.percent(odd) {
+        return [&id(rng)[..], b"\n"].concat();
+    }
     let after = rng.pick(&["\n", "\n", "\n", "", "\r\n", "\0", "z", " x", "\nx"]);
     [&id(rng)[..], after.as_bytes()].concat()
 }
@@ -104,10 +114,10 @@ impl Maker<'_> {
         for _ in 0..self.rng.below(3) {
             self.chain();
         }
-        for _ in 0..self.rng.below(self.size.blocks) {
+        for _ in 0..self.rng.below(self.style.blocks) {
             self.loose_file();
         }
-        for _ in 0..self.rng.below(self.size.blocks) {
+        for _ in 0..self.rng.below(self.style.blocks) {
             self.packed_record();
         }
         for _ in 0..self.rng.below(3) {
@@ -129,7 +139,7 @@ impl Maker<'_> {
         let names: Vec<Bytes> = (0..=length).map(|_| names::any(self.rng)).collect();
         for i in 0..length {
             let target = self.target(&names[i + 1]);
-            let content = symbolic(self.rng, &target);
+            let content = symbolic(self.rng, &target, self.style.odd);
             self.place(&names[i], Loose::File(content));
         }
         self.asked.push(names[0].clone());
@@ -143,11 +153,11 @@ impl Maker<'_> {
             0..=6 => {
                 let again = self.rng.below(length);
                 let target = self.target(&names[again]);
-                let content = symbolic(self.rng, &target);
+                let content = symbolic(self.rng, &target, self.style.odd);
                 self.place(last, Loose::File(content));
             }
             7..=9 => {
-                let content = object(self.rng);
+                let content = object(self.rng, self.style.odd);
                 self.place(last, Loose::File(content));
             }
             10..=14 => {
@@ -155,7 +165,7 @@ impl Maker<'_> {
                 self.record(name);
             }
             15 => self.place(last, Loose::Unreadable),
-            16 | 17 => {
+            16 | 17 if self.rng.percent(self.style.odd) => {
                 let content = odd_content(self.rng);
                 self.place(last, Loose::File(content));
             }
@@ -201,13 +211,13 @@ impl Maker<'_> {
         };
         let what = match self.rng.below(20) {
             0 | 1 => Loose::Unreadable,
-            2..=4 => Loose::File(odd_content(self.rng)),
+            2..=4 if self.rng.percent(self.style.odd) => Loose::File(odd_content(self.rng)),
             5..=8 => {
                 let name = self.any_held().unwrap_or_else(|| names::any(self.rng));
                 let target = self.target(&name);
-                Loose::File(symbolic(self.rng, &target))
+                Loose::File(symbolic(self.rng, &target, self.style.odd))
             }
-            _ => Loose::File(object(self.rng)),
+            _ => Loose::File(object(self.rng, self.style.odd)),
         };
         let in_worktree = self.rng.percent(50);
         self.add(in_worktree, Entry { name, what });
@@ -231,7 +241,7 @@ impl Maker<'_> {
             _ => &mut self.s.worktree,
         };
         entries.push(e);
-        if entries.len() > self.size.blocks || !stand_together(entries) {
+        if entries.len() > self.style.blocks || !stand_together(entries) {
             entries.pop();
         }
     }
@@ -253,7 +263,7 @@ impl Maker<'_> {
         let peeled = self.rng.percent(35).then(|| id(self.rng));
         let id = id(self.rng);
         if let Some(packed) = &mut self.s.packed
-            && packed.len() < self.size.blocks
+            && packed.len() < self.style.blocks
             && name.len() <= LIMIT
             && gix_validate::reference::complete(&name)
         {
@@ -322,7 +332,7 @@ impl Maker<'_> {
             let mut questions = Vec::new();
             if fit {
                 questions.push(Question::List);
-                self.searches(&mut questions, self.size.names);
+                self.searches(&mut questions, self.style.names);
             }
             groups.push(Group {
                 namespace: namespace.clone(),
@@ -332,9 +342,9 @@ impl Maker<'_> {
         let mut questions = vec![Question::Fit, Question::List];
         if fit {
             let few = if namespace.is_some() {
-                self.size.names / 4
+                self.style.names / 4
             } else {
-                self.size.names
+                self.style.names
             };
             self.searches(&mut questions, few);
         }
@@ -398,10 +408,10 @@ fn rng_dir(rng: &mut Rng) -> &'static [u8] {
 
 fn chosen_content(rng: &mut Rng) -> Bytes {
     if rng.percent(40) {
-        return object(rng);
+        return object(rng, 100);
     }
     let target = names::any(rng);
-    symbolic(rng, &target)
+    symbolic(rng, &target, 100)
 }
 
 fn full_name(rng: &mut Rng) -> Question {
@@ -416,7 +426,11 @@ fn full_name(rng: &mut Rng) -> Question {
                 names::bytes(rng)
             }
         }),
-        short: names::bytes(rng),
+        short: if rng.percent(50) {
+            names::any(rng)
+        } else {
+            names::bytes(rng)
+        },
     }
 }
 

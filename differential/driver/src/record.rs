@@ -7,7 +7,7 @@ use std::{
 
 use crate::{
     compare::{self, Asked, Counts},
-    generate::{self, Size},
+    generate::{self, Style},
     oracle::By,
     rng::Rng,
     snapshot::{Case, Question},
@@ -31,7 +31,12 @@ impl Output {
 }
 
 /// Small snapshots: a block is a thousand digits.
-const SIZE: Size = Size { blocks: 4, names: 14 };
+const STYLE: Style = Style {
+    blocks: 4,
+    names: 14,
+    namespaces: 45,
+    odd: 100,
+};
 const START: &str = "worktree -\ncommon ~\npacked ~\nnamespace ~\n";
 
 /// Write about `limit` bytes; false if a kind of question or a number is missing.
@@ -40,7 +45,7 @@ pub fn record(scratch: &Path, seed: u64, limit: usize, mut out: Output) -> io::R
     let (mut questions, mut answers) = (START.to_owned(), String::new());
     let mut counts = Counts::default();
     loop {
-        let case = generate::case(&mut rng, SIZE);
+        let case = generate::case(&mut rng, STYLE);
         let asked = sample(compare::ask_rust(&scratch.join("record"), &case, &mut counts)?);
         let (q, a) = lines(&case, &asked);
         if questions.len() + answers.len() + q.len() + a.len() > limit {

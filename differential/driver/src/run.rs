@@ -11,7 +11,7 @@ use std::{
 
 use crate::{
     compare::{self, Counts, Difference},
-    generate::{self, Size},
+    generate::{self, Style},
     replay::Replay,
     report,
     rng::Rng,
@@ -22,7 +22,12 @@ use crate::{
 const THREADS: usize = 2;
 const BATCHES_A_ROUND: u64 = 8;
 const CASES_A_BATCH: usize = 100;
-const SIZE: Size = Size { blocks: 12, names: 16 };
+const STYLE: Style = Style {
+    blocks: 12,
+    names: 16,
+    namespaces: 45,
+    odd: 100,
+};
 
 pub fn run(scratch: &Path, replay: &Replay, seed: u64, count: u64) -> io::Result<bool> {
     std::panic::set_hook(Box::new(|_| {}));
@@ -79,7 +84,7 @@ fn worker(
             return Ok(());
         }
         let mut rng = Rng::new(seed, batch);
-        let cases: Vec<Case> = (0..CASES_A_BATCH).map(|_| generate::case(&mut rng, SIZE)).collect();
+        let cases: Vec<Case> = (0..CASES_A_BATCH).map(|_| generate::case(&mut rng, STYLE)).collect();
         let (counts, different) = ask(dir, replay, &cases)?;
         let mut all = all.lock().expect("no worker panicked");
         all.0.add(&counts);
