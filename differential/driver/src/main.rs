@@ -2,6 +2,9 @@
 mod blocks;
 mod compare;
 mod generate;
+mod git;
+mod gitrules;
+mod gitrun;
 mod layout;
 mod names;
 mod oracle;
@@ -70,6 +73,11 @@ fn start(args: &[String]) -> io::Result<bool> {
             let (scratch, replay) = prepare()?;
             run::run(&scratch.0, &replay, seed, count)
         }
+        Some("git") => {
+            let (seed, count) = (number(1, 1)?, number(2, 100_000)?);
+            let (scratch, replay) = prepare()?;
+            gitrun::run(&scratch.0, &replay, seed, count)
+        }
         Some("record") => {
             let (kilobytes, dir) = (number(1, 900)?, args.get(2).map_or("vectors/recorded", String::as_str));
             let out = record::Output::create(Path::new(dir))?;
@@ -78,7 +86,7 @@ fn start(args: &[String]) -> io::Result<bool> {
             record::record(&scratch.0, number(3, 1)?, kilobytes as usize * 1000, out)
         }
         _ => Err(io::Error::other(
-            "usage: differential run [SEED] [COUNT] | record [KB] [DIR] [SEED]",
+            "usage: differential run [SEED] [COUNT] | git [SEED] [COUNT] | record [KB] [DIR] [SEED]",
         )),
     }
 }

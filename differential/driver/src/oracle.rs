@@ -293,6 +293,14 @@ fn expansion_answer(ns: &[u8]) -> Option<Answer> {
     }
 }
 
+/// A content's symbolic target, or the empty name for an id.
+pub fn decoded(content: &[u8]) -> Option<Bytes> {
+    match inside::decode(content).ok()? {
+        Target::Object(_) => Some(Vec::new()),
+        Target::Symbolic(n) => Some(n.as_bstr().to_vec()),
+    }
+}
+
 fn decode(content: &[u8]) -> String {
     match inside::decode(content) {
         Ok(Target::Object(id)) => format!("object {id}"),

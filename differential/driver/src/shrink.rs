@@ -196,44 +196,54 @@ fn replaced(name: &[u8], part: &[u8]) -> Bytes {
 
 /// The difference for a reader, then as lines for `replay`.
 pub fn show(d: &Difference) -> String {
+    let mut out = show_snapshot(&d.snapshot);
+    let _ = writeln!(
+        out,
+        "  namespace {}",
+        d.namespace.as_ref().map_or("none".into(), |n| plain(n))
+    );
+    let _ = writeln!(out, "  question {}", plain_question(d));
+    show_answers(&mut out, d);
+    out
+}
+
+fn plain(bytes: &[u8]) -> String {
+    format!("`{}`", bytes.escape_ascii())
+}
+
+pub fn show_snapshot(s: &Snapshot) -> String {
     let mut out = String::new();
-    let plain = |b: &[u8]| format!("`{}`", b.escape_ascii());
-    let entries = |out: &mut String, region: &str, entries: &[Entry]| {
-        for e in entries {
-            let what = match &e.what {
-                Loose::File(content) => plain(content),
-                Loose::Unreadable => "without permission".into(),
-                Loose::Locked => "a directory without permission".into(),
-            };
-            let _ = writeln!(out, "  {region} {} holds {what}", plain(&e.name));
-        }
-    };
-    entries(&mut out, "worktree", &d.snapshot.worktree);
-    match &d.snapshot.common {
-        Some(common) => entries(&mut out, "common", common),
+    show_entries(&mut out, "worktree", &s.worktree);
+    match &s.common {
+        Some(common) => show_entries(&mut out, "common", common),
         None => out += "  no common directory\n",
     }
-    if let Some(name) = &d.snapshot.nested {
+    if let Some(name) = &s.nested {
         let _ = writeln!(
             out,
             "  the worktree's directory is worktrees/{} of the common one",
             plain(name)
         );
     }
-    for line in d.snapshot.packed.iter().flatten() {
+    for line in s.packed.iter().flatten() {
         let _ = writeln!(out, "  packed {}", packed_line(line));
     }
-    for (in_common, name) in &d.snapshot.empty {
-        let _ = writeln!(out, "  an empty directory {}, in common: {in_common}", plain(name));
+    for (in_common, name) in &s.empty {
+        let side = if *in_common { "common" } else { "worktree" };
+        let _ = writeln!(out, "  {side} has an empty directory {}", plain(name));
     }
-    let _ = writeln!(
-        out,
-        "  namespace {}",
-        d.namespace.as_ref().map_or("none".into(), |n| plain(n))
-    );
-    let _ = writeln!(out, "  question {:?}", d.question);
-    show_answers(&mut out, d);
     out
+}
+
+fn show_entries(out: &mut String, region: &str, entries: &[Entry]) {
+    for e in entries {
+        let what = match &e.what {
+            Loose::File(content) => plain(content),
+            Loose::Unreadable => "without permission".into(),
+            Loose::Locked => "a directory without permission".into(),
+        };
+        let _ = writeln!(out, "  {region} {} holds {what}", plain(&e.name));
+    }
 }
 
 fn packed_line(line: &Packed) -> String {
@@ -248,21 +258,45 @@ fn packed_line(line: &Packed) -> String {
     }
 }
 
-fn show_answers(out: &mut String, d: &Difference) {
-    for (who, lines) in [("the Rust", &d.rust), ("replay", &d.replay)] {
-        for line in lines {
-            let _ = writeln!(out, "  {who}: {line}");
-        }
+/// The question's line with its byte strings in plain text.
+fn plain_question(d: &Difference) -> String {
+    let line = question_line(d);
+    line.split(' ').map(plain_word).collect::<Vec<_>>().join(" ")
+}
+
+/// Hexadecimal words in plain text, ids and all others as they are.
+fn plain_word(word: &str) -> String {
+    let is_hex =
+        word.len() % 2 == 0 && word.len() != 40 && word.bytes().all(|b| matches!(b, b'0'..=b'9' | b'a'..=b'f'));
+    if !is_hex || word.is_empty() {
+        return word.into();
     }
+    let bytes: Bytes = (0..word.len() / 2)
+        .map(|i| u8::from_str_radix(&word[2 * i..2 * i + 2], 16).unwrap_or(0))
+        .collect();
+    plain(&bytes)
+}
+
+fn question_line(d: &Difference) -> String {
     let expansion = match &d.question {
         Question::Strip { namespace, .. } => crate::oracle::expansion(namespace).unwrap_or_default(),
         _ => Vec::new(),
     };
+    text::question(&d.question, d.rust.len(), &expansion)
+}
+
+fn show_answers(out: &mut String, d: &Difference) {
+    for (who, lines) in [("the Rust", &d.rust), ("replay", &d.replay)] {
+        for line in lines {
+            let line = line.split(' ').map(plain_word).collect::<Vec<_>>().join(" ");
+            let _ = writeln!(out, "  {who}: {line}");
+        }
+    }
     let _ = write!(
         out,
         "For replay:\n{}{}",
         text::setters(&d.snapshot),
         text::namespace(d.namespace.as_ref())
     );
-    let _ = writeln!(out, "{}", text::question(&d.question, d.rust.len(), &expansion));
+    let _ = writeln!(out, "{}", question_line(d));
 }
