@@ -30,13 +30,16 @@ impl Output {
     }
 }
 
-/// Small snapshots: a block is a thousand digits.
-const STYLE: Style = Style {
-    blocks: 4,
-    names: 14,
-    namespaces: 45,
-    odd: 100,
-};
+/// Small snapshots, since a block is a thousand digits; now and then room for a long chain.
+fn style(rng: &mut Rng) -> Style {
+    Style {
+        blocks: if rng.percent(25) { 8 } else { 3 },
+        names: 14,
+        namespaces: 45,
+        odd: 100,
+    }
+}
+
 const START: &str = "worktree -\ncommon ~\npacked ~\nnamespace ~\n";
 
 /// Write about `limit` bytes; false if a kind of question or a number is missing.
@@ -45,13 +48,14 @@ pub fn record(scratch: &Path, seed: u64, limit: usize, mut out: Output) -> io::R
     let (mut questions, mut answers) = (START.to_owned(), String::new());
     let mut counts = Counts::default();
     loop {
-        let case = generate::case(&mut rng, STYLE);
+        let style = style(&mut rng);
+        let case = generate::case(&mut rng, style);
         let asked = sample(compare::ask_rust(&scratch.join("record"), &case, &mut counts)?);
         let (q, a) = lines(&case, &asked);
         if questions.len() + answers.len() + q.len() + a.len() > limit {
             break;
         }
-        if case.snapshot.fit() && worth(&asked) {
+        if case.snapshot.fit() && worth(&asked) && (has_rare(&asked) || rng.percent(40)) {
             questions += &q;
             answers += &a;
         }
@@ -78,6 +82,13 @@ fn worth(asked: &[Asked]) -> bool {
     let searches = asked.iter().filter(|a| a.question.kind() < 2);
     let found = searches.clone().filter(|a| a.expected.lines[0] != "absent").count();
     2 * found >= searches.count()
+}
+
+/// Some answer is one of the rarer refusals.
+fn has_rare(asked: &[Asked]) -> bool {
+    asked
+        .iter()
+        .any(|a| matches!(text::refusal(&a.expected.lines[0]), Some(9 | 12 | 14 | 15)))
 }
 
 fn lines(case: &Case, asked: &[Asked]) -> (String, String) {
