@@ -384,6 +384,8 @@ impl Maker<'_> {
             questions.push(Question::WellFormed(name.clone()));
             questions.push(Question::Complete(name));
             questions.push(Question::Pseudo(names::bytes(rng)));
+            let other = names::bytes(rng);
+            questions.push(Question::Order(names::near(rng, &other), other));
             questions.push(full_name(rng));
             questions.push(Question::Expand(if rng.percent(50) {
                 names::namespace(rng)

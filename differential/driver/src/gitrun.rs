@@ -183,42 +183,50 @@ fn id_of(answer: &str) -> Option<&str> {
     answer.strip_prefix("id ")?.split(' ').next()
 }
 
+/// One item for each name that either lists, and one for the order of those that both list.
 fn list_items(git: &Git, replay: &Replay, layout: &Layout, s: &Snapshot) -> io::Result<Vec<Item>> {
     let theirs = git.list(&layout.worktree)?;
-    let listed = replay.ask(text::setters(s) + "namespace ~\n" + &format!("list {STEPS}\n"))?;
-    let listed: Vec<Vec<&str>> = listed.lines().map(|l| l.split(' ').collect()).collect();
-    let followings: String = listed
-        .iter()
-        .map(|l| {
-            if l[0] == "ref" && l[2] == "symbolic" {
-                format!("follow {}\n", l[1])
-            } else {
-                "mark\n".into()
-            }
-        })
+    let ours = our_list(replay, s)?;
+    let in_both = |n: &Bytes| ours.iter().any(|(o, _)| o == n) && theirs.iter().any(|(t, ..)| t == n);
+    let order = |names: Vec<&Bytes>| names.into_iter().filter(|n| in_both(n)).map(|n| hex(n) + " ").collect();
+    let mut items = vec![Item {
+        question: "order of the list",
+        name: Vec::new(),
+        ours: order(ours.iter().map(|(n, _)| n).collect()),
+        git: order(theirs.iter().map(|(n, ..)| n).collect()),
+    }];
+    let mut all: BTreeMap<&Bytes, [String; 2]> = BTreeMap::new();
+    for (name, answer) in &ours {
+        all.entry(name).or_default()[0].clone_from(answer);
+    }
+    for (name, id, last) in &theirs {
+        all.entry(name).or_default()[1] = format!("{} {}", id.escape_ascii(), hex(last));
+    }
+    items.extend(all.into_iter().map(|(name, [ours, git])| Item {
+        question: LIST,
+        name: name.clone(),
+        ours,
+        git,
+    }));
+    Ok(items)
+}
+
+/// Names and what git would print of them, refused entries left out.
+fn our_list(replay: &Replay, s: &Snapshot) -> io::Result<Vec<(Bytes, String)>> {
+    let set = text::setters(s) + "namespace ~\n";
+    let listed = replay.ask(format!("{set}list {STEPS}\n"))?;
+    let listed: Vec<Vec<&str>> = listed
+        .lines()
+        .map(|l| l.split(' ').collect())
+        .filter(|l: &Vec<_>| l[0] == "ref")
         .collect();
-    let followed = replay.ask(text::setters(s) + "namespace ~\n" + &followings)?;
-    let mut all: BTreeMap<String, [String; 2]> = BTreeMap::new();
-    for (l, f) in listed.iter().zip(followed.lines()).filter(|(l, _)| l[0] == "ref") {
-        let answer = if l[2] == "object" {
-            format!("{} -", l[3])
-        } else {
-            f.strip_prefix("id ").map_or(DANGLING.into(), str::to_owned)
-        };
-        all.entry(l[1].into()).or_default()[0] = answer;
-    }
-    for (name, id, last) in theirs {
-        all.entry(hex(&name)).or_default()[1] = format!("{} {}", id.escape_ascii(), hex(&last));
-    }
-    Ok(all
-        .into_iter()
-        .map(|(name, [ours, git])| Item {
-            question: LIST,
-            name: unhex(&name),
-            ours,
-            git,
-        })
-        .collect())
+    let followings: String = listed.iter().map(|l| format!("follow {}\n", l[1])).collect();
+    let followed = replay.ask(set + &followings)?;
+    let answer = |(l, f): (&Vec<&str>, &str)| match l[2] {
+        "object" => (unhex(l[1]), format!("{} -", l[3])),
+        _ => (unhex(l[1]), f.strip_prefix("id ").unwrap_or(DANGLING).to_owned()),
+    };
+    Ok(listed.iter().zip(followed.lines()).map(answer).collect())
 }
 
 fn unhex(word: &str) -> Bytes {

@@ -92,26 +92,29 @@ fn start(args: &[String]) -> io::Result<bool> {
     }
 }
 
-/// The scratch directory, and `replay` where another user can run it.
+/// The scratch directory, and `replay` where another user can run it: a copy, or itself if copies can't be run.
 fn prepare() -> io::Result<(Scratch, Replay)> {
     let path = env::var_os("COSVINT_REPLAY").map_or_else(|| PathBuf::from("target/bin/replay"), PathBuf::from);
+    let missing = |err| {
+        format!(
+            "{}: {err}; build it, or say in COSVINT_REPLAY where it is",
+            path.display()
+        )
+    };
+    let path = fs::canonicalize(&path).map_err(|err| io::Error::other(missing(err)))?;
     let scratch = Scratch::new()?;
     let copy = scratch.0.join("replay");
-    fs::copy(&path, &copy).map_err(|err| {
-        io::Error::other(format!(
-            "{}: {err}; make it with `rt check replay` or say in COSVINT_REPLAY where it is",
-            path.display()
-        ))
-    })?;
+    fs::copy(&path, &copy)?;
     become_nobody(&scratch)?;
-    let replay = Replay::new(&copy);
-    match replay.ask("mark\n".into()) {
-        Ok(answer) if answer == "?\n" => Ok((scratch, replay)),
-        Ok(answer) => Err(io::Error::other(format!(
-            "replay answers a line without shape by {answer:?}"
-        ))),
-        Err(err) => Err(io::Error::other(format!("replay cannot be run: {err}"))),
+    for path in [copy, path] {
+        let replay = Replay::new(&path);
+        if replay.ask("mark\n".into()).is_ok_and(|answer| answer == "?\n") {
+            return Ok((scratch, replay));
+        }
     }
+    Err(io::Error::other(
+        "replay cannot be run by another user, or does not answer `?` to a line without shape",
+    ))
 }
 
 fn become_nobody(scratch: &Scratch) -> io::Result<()> {

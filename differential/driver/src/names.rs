@@ -165,6 +165,16 @@ fn after(name: &[u8], n: usize) -> Bytes {
     rest.to_vec()
 }
 
+/// Bytes that are often equal to others, or begin them.
+pub fn near(rng: &mut Rng, other: &[u8]) -> Bytes {
+    match rng.below(4) {
+        0 => other.to_vec(),
+        1 => other[..rng.below(other.len() + 1)].to_vec(),
+        2 => [other, &bytes(rng)].concat(),
+        _ => bytes(rng),
+    }
+}
+
 const TOKENS: [&str; 34] = [
     "refs/",
     "refs/",

@@ -2,6 +2,7 @@
 //! of 250 bytes (refusals 3 and 5), which the crate does not have; fitness for search, which it does not know; and
 //! well-formed and complete names, which come from the stand-in for gix-validate.
 use std::{
+    cmp::Ordering,
     panic::{AssertUnwindSafe, catch_unwind},
     path::PathBuf,
 };
@@ -80,6 +81,7 @@ impl Oracle {
             }
             Question::Decode(c) => rust(decode(c)),
             Question::Pseudo(n) => rust(yes_no(inside::is_pseudo_ref(n.as_bstr()))),
+            Question::Order(a, b) => rust(order(a, b)),
             Question::WellFormed(n) => stand_in(gix_validate::reference::name_partial(n.as_bstr()).is_ok()),
             Question::Complete(n) => stand_in(gix_validate::reference::name(n.as_bstr()).is_ok()),
             Question::Fit => document(self.fitness.clone()),
@@ -147,6 +149,15 @@ fn stand_in(yes: bool) -> Option<Answer> {
 
 fn yes_no(yes: bool) -> String {
     if yes { "yes" } else { "no" }.into()
+}
+
+fn order(a: &[u8], b: &[u8]) -> String {
+    match inside::order(a.as_bstr(), b.as_bstr()) {
+        Ordering::Less => "less",
+        Ordering::Equal => "equal",
+        Ordering::Greater => "greater",
+    }
+    .into()
 }
 
 fn find(store: &file::Store, name: &BStr) -> String {

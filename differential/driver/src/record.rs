@@ -100,7 +100,7 @@ fn lines(case: &Case, asked: &[Asked]) -> (String, String) {
 
 /// Every kind of question that the Rust answers, and each of 4 and 9 to 15.
 fn complete(questions: &str, answers: &str) -> bool {
-    let kinds = Question::KINDS[..9].iter().filter(|k| **k != "list");
+    let kinds = Question::KINDS[..10].iter().filter(|k| **k != "list");
     let asked = |kind: &str| questions.lines().any(|l| l.split(' ').next() == Some(kind));
     let reached = |n: usize| answers.lines().any(|l| text::refusal(l) == Some(n));
     let missing: Vec<String> = kinds

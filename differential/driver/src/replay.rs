@@ -14,7 +14,7 @@ impl Replay {
         Replay(path.to_owned())
     }
 
-    /// All answers to `questions`, or what went wrong.
+    /// All answers to `questions`; a last line says so if the program failed.
     pub fn ask(&self, questions: String) -> io::Result<String> {
         let mut child = Command::new(&self.0)
             .stdin(Stdio::piped())
@@ -28,9 +28,15 @@ impl Replay {
         let written = writer.join().expect("the writer does not panic");
         let status = child.wait()?;
         read?;
-        written?;
         if !status.success() {
-            return Err(io::Error::other(format!("replay ended with {status}")));
+            let end = if answers.is_empty() || answers.ends_with('\n') {
+                ""
+            } else {
+                "\n"
+            };
+            answers += &format!("{end}replay ended with {status}\n");
+        } else {
+            written?;
         }
         Ok(answers)
     }

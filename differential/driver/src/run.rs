@@ -116,5 +116,8 @@ fn ask(dir: &Path, replay: &Replay, cases: &[Case]) -> io::Result<(Counts, Optio
             return Ok((counts, Some(*d)));
         }
     }
-    Ok((counts, None))
+    match lines.next() {
+        None => Ok((counts, None)),
+        Some(line) => Err(io::Error::other(format!("after the last answer: {line:?}"))),
+    }
 }

@@ -13,7 +13,7 @@ pub fn shrink(dir: &Path, replay: &Replay, mut d: Difference) -> Difference {
     // Each variant is simpler, but a bound is kept all the same.
     for _ in 0..2000 {
         let smaller = variants(&d).into_iter().find_map(|v| {
-            let sound = stands(&v.snapshot) && v.snapshot.fit() == fit;
+            let sound = stands(&v.snapshot) && (v.snapshot.fit() || !fit);
             sound
                 .then(|| {
                     compare::ask_both(dir, replay, &v.snapshot, v.namespace.as_ref(), &v.question)
@@ -172,9 +172,9 @@ fn each(d: &mut Difference, f: &mut dyn FnMut(&mut Bytes)) {
         Question::Find(n) | Question::Follow(n) | Question::Category(n) | Question::Expand(n) => f(n),
         Question::Pseudo(n) | Question::WellFormed(n) | Question::Complete(n) | Question::Decode(n) => f(n),
         Question::FullName { short, .. } => f(short),
-        Question::Strip { namespace, name } => {
-            f(namespace);
-            f(name);
+        Question::Strip { namespace: a, name: b } | Question::Order(a, b) => {
+            f(a);
+            f(b);
         }
         Question::List | Question::Fit => {}
     }
@@ -260,14 +260,24 @@ fn packed_line(line: &Packed) -> String {
 
 /// The question's line with its byte strings in plain text.
 fn plain_question(d: &Difference) -> String {
-    let line = question_line(d);
-    line.split(' ').map(plain_word).collect::<Vec<_>>().join(" ")
+    plain_line(&question_line(d))
+}
+
+fn plain_line(line: &str) -> String {
+    let mut last = "";
+    let word = |w| {
+        let number = matches!(last, "refused" | "list");
+        last = w;
+        if number { w.to_owned() } else { plain_word(w) }
+    };
+    line.split(' ').map(word).collect::<Vec<_>>().join(" ")
 }
 
 /// Hexadecimal words in plain text, ids and all others as they are.
 fn plain_word(word: &str) -> String {
-    let is_hex =
-        word.len() % 2 == 0 && word.len() != 40 && word.bytes().all(|b| matches!(b, b'0'..=b'9' | b'a'..=b'f'));
+    let is_hex = word.len().is_multiple_of(2)
+        && word.len() != 40
+        && word.bytes().all(|b| matches!(b, b'0'..=b'9' | b'a'..=b'f'));
     if !is_hex || word.is_empty() {
         return word.into();
     }
@@ -288,8 +298,7 @@ fn question_line(d: &Difference) -> String {
 fn show_answers(out: &mut String, d: &Difference) {
     for (who, lines) in [("the Rust", &d.rust), ("replay", &d.replay)] {
         for line in lines {
-            let line = line.split(' ').map(plain_word).collect::<Vec<_>>().join(" ");
-            let _ = writeln!(out, "  {who}: {line}");
+            let _ = writeln!(out, "  {who}: {}", plain_line(line));
         }
     }
     let _ = write!(

@@ -79,6 +79,7 @@ pub enum Question {
     },
     Decode(Bytes),
     Pseudo(Bytes),
+    Order(Bytes, Bytes),
     WellFormed(Bytes),
     Complete(Bytes),
     /// Whether the snapshot is fit for search.
@@ -86,7 +87,7 @@ pub enum Question {
 }
 
 impl Question {
-    pub const KINDS: [&'static str; 12] = [
+    pub const KINDS: [&'static str; 13] = [
         "find",
         "follow",
         "list",
@@ -96,6 +97,7 @@ impl Question {
         "strip",
         "decode",
         "pseudo",
+        "order",
         "wellformed",
         "complete",
         "fit",
@@ -113,9 +115,10 @@ impl Question {
             Question::Strip { .. } => 6,
             Question::Decode(_) => 7,
             Question::Pseudo(_) => 8,
-            Question::WellFormed(_) => 9,
-            Question::Complete(_) => 10,
-            Question::Fit => 11,
+            Question::Order(..) => 9,
+            Question::WellFormed(_) => 10,
+            Question::Complete(_) => 11,
+            Question::Fit => 12,
         }
     }
 }

@@ -53,6 +53,7 @@ pub fn question(q: &Question, steps: usize, expansion: &[u8]) -> String {
         Question::Strip { name, .. } => format!("strip {} {}", hex(expansion), hex(name)),
         Question::Decode(c) => format!("decode {}", hex(c)),
         Question::Pseudo(n) => format!("pseudo {}", hex(n)),
+        Question::Order(a, b) => format!("order {} {}", hex(a), hex(b)),
         Question::WellFormed(n) => format!("wellformed {}", hex(n)),
         Question::Complete(n) => format!("complete {}", hex(n)),
         Question::Fit => "fit".into(),

@@ -9,6 +9,11 @@ pub fn is_pseudo_ref(name: &BStr) -> bool {
     crate::name::is_pseudo_ref(name)
 }
 
+/// The order of full names, for any bytes.
+pub fn order(a: &BStr, b: &BStr) -> std::cmp::Ordering {
+    FullNameRef::new_unchecked(a).cmp(FullNameRef::new_unchecked(b))
+}
+
 /// `PartialNameRef::looks_like_full_name`, for any bytes.
 pub fn looks_like_full_name(name: &BStr, consider_pseudo_ref: bool) -> bool {
     PartialNameRef::new_unchecked(name).looks_like_full_name(consider_pseudo_ref)
