@@ -41,6 +41,8 @@ pub struct Counts {
     pub refused: [[u64; NUMBERS]; Question::KINDS.len()],
     /// By kind of question: searches and followings that found nothing.
     pub absent: [u64; Question::KINDS.len()],
+    /// Demand 2's exception, compared all the same.
+    pub into_peeled: u64,
     /// Steps of listings.
     pub steps: u64,
     /// Answers of document 01 alone, and of the stand-in for gix-validate.
@@ -73,6 +75,7 @@ impl Counts {
                 self.refused[k][n] += o.refused[k][n];
             }
         }
+        self.into_peeled += o.into_peeled;
         self.steps += o.steps;
         self.document += o.document;
         self.stand_in += o.stand_in;
@@ -89,6 +92,7 @@ impl Counts {
                 let kind = a.question.kind();
                 self.compared[kind] += 1;
                 self.in_namespace[kind] += u64::from(kind < 3 && a.namespace.is_some());
+                self.into_peeled += u64::from(a.expected.into_peeled);
                 self.absent[kind] += u64::from(a.expected.lines == ["absent"]);
                 for number in a.expected.lines.iter().filter_map(|l| text::refusal(l)) {
                     self.refused[kind][number] += 1;

@@ -1,43 +1,51 @@
-//! Cases written by hand: the answers that surprise and are the crate's own (docs/DIFFERENCES.md), and document 01's
-//! corners. Here the answer stands as well, so that a run shows that the Rust gives it.
+//! Cases written by hand: the answers that surprise and are the crate's own, the intended differences from it (both in
+//! docs/DIFFERENCES.md), and document 01's corners. Here the answers stand as well, so that a run shows that they are so.
 //!
-//! In the texts `#1` is the id of forty ones, N the expansion of the namespace `n`, and words in backquotes are byte
-//! strings.
+//! In the texts `#1` is the id of forty ones, N the expansion of the namespace `n`, `y*251` that many times `y`, and words
+//! in backquotes are byte strings.
 use std::{io, path::Path};
 
 use crate::{
-    compare::{self, Counts, Difference},
+    layout::Layout,
+    oracle::Oracle,
     replay::Replay,
-    snapshot::{Bytes, Case, Entry, Group, Loose, Packed, Question, Snapshot},
+    snapshot::{Bytes, Entry, Loose, Packed, Question, Snapshot},
     text,
 };
 
 struct Corner {
     /// Files, `w:NAME=CONTENT` or `c:NAME=CONTENT`, and records, `p:NAME=ID` or `p:NAME=ID^PEELED`; `c:` alone is an empty
-    /// common directory.
+    /// common directory, and `w:NAME` a directory without permission.
     held: &'static [&'static str],
-    namespace: bool,
+    namespace: Option<&'static str>,
     /// A keyword and a name, or `list`.
     question: &'static str,
-    /// Lines are separated by `|`; a listing's end is not written.
-    answer: &'static str,
+    /// The Rust's answer, and this reader's. Lines are separated by `|`; a listing's end is not written.
+    rust: &'static str,
+    here: &'static str,
 }
 
 const fn at(held: &'static [&'static str], question: &'static str, answer: &'static str) -> Corner {
-    Corner {
-        held,
-        namespace: false,
-        question,
-        answer,
-    }
+    differs(held, None, question, answer, answer)
 }
 
 const fn in_n(held: &'static [&'static str], question: &'static str, answer: &'static str) -> Corner {
+    differs(held, Some("n"), question, answer, answer)
+}
+
+const fn differs(
+    held: &'static [&'static str],
+    namespace: Option<&'static str>,
+    question: &'static str,
+    rust: &'static str,
+    here: &'static str,
+) -> Corner {
     Corner {
         held,
-        namespace: true,
+        namespace,
         question,
-        answer,
+        rust,
+        here,
     }
 }
 
@@ -185,62 +193,89 @@ const CORNERS: &[Corner] = &[
         "found `refs/heads/m` object #1 ~",
     ),
     in_n(&["w:Nrefs/heads/m=#1"], "find Nrefs/heads/m", "absent"),
+    // Intended differences.
+    differs(&[], None, "find y*251", "absent", "refused 3"),
+    differs(&[], Some("y*235"), "list", "", "refused 5"),
+    differs(
+        &["w:HEAD=#1", "w:refs/x"],
+        None,
+        "find HEAD",
+        "found `HEAD` object #1 ~",
+        "refused 7 worktree 1",
+    ),
+    differs(&["w:refs/x"], Some("n"), "list", "", "refused 7"),
+    differs(
+        &["p:Na=#1", "p:refs/a=#2", "p:Nb=#3"],
+        Some("n"),
+        "list",
+        "ref `b` object #3 ~",
+        "ref `a` object #1 ~|ref `b` object #3 ~",
+    ),
 ];
 
-/// Ask all; gives their number, and the first difference if there is one.
-pub fn run(dir: &Path, replay: &Replay) -> io::Result<Result<usize, Box<Difference>>> {
+/// Steps asked of a listing.
+const STEPS: usize = 6;
+
+/// Ask all; gives their number, or what an answer should have been.
+pub fn run(dir: &Path, replay: &Replay) -> io::Result<Result<usize, String>> {
     for corner in CORNERS {
-        let (case, answer) = corner.case();
-        let asked = compare::ask_rust(dir, &case, &mut Counts::default())?;
-        let question = asked.first().expect("there is one");
-        let given: Vec<&String> = question.expected.lines.iter().filter(|l| *l != "ended").collect();
-        if given != answer.iter().collect::<Vec<_>>() {
-            return Err(io::Error::other(format!(
-                "{}: the Rust gives {given:?}, not {answer:?}",
-                corner.question
-            )));
-        }
-        let replies = replay.ask(compare::questions(&case.snapshot, &asked))?;
-        if let Err(d) = compare::compare(&case.snapshot, &asked, &mut replies.lines(), &mut Counts::default()) {
-            return Ok(Err(d));
+        let answers = [corner.ask_rust(dir)?, corner.ask_replay(replay)?];
+        for (who, given, due) in [
+            ("the Rust", &answers[0], corner.rust),
+            ("replay", &answers[1], corner.here),
+        ] {
+            let due: Vec<String> = due.split('|').filter(|l| !l.is_empty()).map(answer_line).collect();
+            if *given != due {
+                let Corner { held, question, .. } = corner;
+                return Ok(Err(format!("{held:?} {question}: {who} gives {given:?}, not {due:?}")));
+            }
         }
     }
     Ok(Ok(CORNERS.len()))
 }
 
 impl Corner {
-    fn case(&self) -> (Case, Vec<String>) {
+    fn snapshot(&self) -> Snapshot {
         let mut s = Snapshot::default();
         self.held.iter().for_each(|line| hold(&mut s, line));
-        let question = match self.question.split_once(' ') {
+        s
+    }
+
+    fn question(&self) -> Question {
+        match self.question.split_once(' ') {
             Some(("find", name)) => Question::Find(expanded(name)),
             Some(("follow", name)) => Question::Follow(expanded(name)),
             _ => Question::List,
-        };
-        let group = Group {
-            namespace: self.namespace.then(|| b"n".to_vec()),
-            questions: vec![question],
-        };
-        let answer = if self.answer.is_empty() {
-            vec![]
-        } else {
-            self.answer.split('|').map(answer_line).collect()
-        };
-        (
-            Case {
-                snapshot: s,
-                groups: vec![group],
-            },
-            answer,
-        )
+        }
+    }
+
+    fn ask_rust(&self, dir: &Path) -> io::Result<Vec<String>> {
+        let layout = Layout::new(dir, &self.snapshot())?;
+        let namespace = self.namespace.map(expanded);
+        let answer = Oracle::without_limits(&layout, namespace.as_ref()).ask(&self.question());
+        let mut lines = answer.expect("the Rust answers").lines;
+        lines.retain(|l| l != "ended");
+        Ok(lines)
+    }
+
+    fn ask_replay(&self, replay: &Replay) -> io::Result<Vec<String>> {
+        let namespace = text::namespace(self.namespace.map(expanded).as_ref());
+        let question = text::question(&self.question(), STEPS, b"");
+        let answers = replay.ask(format!("{}{namespace}{question}\n", text::setters(&self.snapshot())))?;
+        let lines = answers.lines().map(|l| l.split(" at ").next().unwrap_or(l));
+        Ok(lines.filter(|l| *l != "ended").map(str::to_owned).collect())
     }
 }
 
 fn hold(s: &mut Snapshot, line: &str) {
     let (region, rest) = line.split_once(':').expect("a region stands in front");
-    let (name, content) = rest.split_once('=').unwrap_or_default();
-    let name = expanded(name);
+    let (name, content) = rest.split_once('=').unwrap_or((rest, ""));
+    let (name, locked) = (expanded(name), !rest.contains('='));
     match region {
+        "w" if locked => s.worktree.push(Entry {
+            name,
+            what: Loose::Locked,
+        }),
         "w" => s.worktree.push(Entry {
             name,
             what: Loose::File(expanded(content)),
@@ -272,6 +307,13 @@ fn expanded(text: &str) -> Bytes {
     let mut out = text.to_owned();
     for digit in '1'..='9' {
         out = out.replace(&format!("#{digit}"), &digit.to_string().repeat(40));
+    }
+    if let Some((before, times)) = out.split_once("y*") {
+        let (times, after) = times.split_at(3);
+        out = format!(
+            "{before}{}{after}",
+            "y".repeat(times.parse().expect("a number of three digits"))
+        );
     }
     while let Some(place) = out.find('N') {
         out.replace_range(place..=place, "refs/namespaces/n/");

@@ -35,6 +35,18 @@ pub enum By {
 pub struct Answer {
     pub by: By,
     pub lines: Vec<String>,
+    /// Demand 2's exception: a symbolic reference was followed into a packed record with a peeled id.
+    pub into_peeled: bool,
+}
+
+impl Answer {
+    fn new(by: By, lines: Vec<String>) -> Self {
+        Answer {
+            by,
+            lines,
+            into_peeled: false,
+        }
+    }
 }
 
 /// Past the last entry a listing is asked this often again.
@@ -45,6 +57,7 @@ pub struct Oracle {
     common: Option<PathBuf>,
     namespace: Option<Bytes>,
     fitness: String,
+    limit: usize,
 }
 
 impl Oracle {
@@ -54,6 +67,15 @@ impl Oracle {
             common: layout.common.clone(),
             namespace: namespace.cloned(),
             fitness: fitness.to_owned(),
+            limit: LIMIT,
+        }
+    }
+
+    /// Only what the Rust itself answers, to searches and listings.
+    pub fn without_limits(layout: &Layout, namespace: Option<&Bytes>) -> Self {
+        Oracle {
+            limit: usize::MAX,
+            ..Oracle::new(layout, namespace, "")
         }
     }
 
@@ -65,7 +87,16 @@ impl Oracle {
     fn dispatch(&self, q: &Question) -> Option<Answer> {
         match q {
             Question::Find(n) => self.on_store(Some(n), |store| vec![find(store, n.as_bstr())]),
-            Question::Follow(n) => self.on_store(Some(n), |store| vec![follow(store, n.as_bstr())]),
+            Question::Follow(n) => {
+                let mut into_peeled = false;
+                let mut answer = self.on_store(Some(n), |store| {
+                    let line;
+                    (line, into_peeled) = follow(store, n.as_bstr());
+                    vec![line]
+                })?;
+                answer.into_peeled = into_peeled;
+                Some(answer)
+            }
             Question::List => self.on_store(None, list),
             Question::Category(n) => rust(category(n.as_bstr())),
             Question::FullName {
@@ -90,7 +121,7 @@ impl Oracle {
 
     /// Rows 3 to 5 of the table, then the store.
     fn on_store(&self, name: Option<&Bytes>, ask: impl FnOnce(&file::Store) -> Vec<String>) -> Option<Answer> {
-        let long = |n: Option<&Bytes>| n.is_some_and(|n| n.len() > LIMIT);
+        let long = |n: Option<&Bytes>| n.is_some_and(|n| n.len() > self.limit);
         if long(name) || long(self.namespace.as_ref()) {
             return limits(3);
         }
@@ -98,14 +129,11 @@ impl Oracle {
         if let Some(ns) = &self.namespace {
             match expand(ns) {
                 Err(()) => return rust("refused 4".into()),
-                Ok(ns) if ns.as_bstr().len() > LIMIT && name.is_none_or(|n| is_partial(n)) => return limits(5),
+                Ok(ns) if ns.as_bstr().len() > self.limit && name.is_none_or(|n| is_partial(n)) => return limits(5),
                 Ok(ns) => store.namespace = Some(ns),
             }
         }
-        Some(Answer {
-            by: By::Rust,
-            lines: ask(&store),
-        })
+        Some(Answer::new(By::Rust, ask(&store)))
     }
 }
 
@@ -123,10 +151,7 @@ fn is_partial(name: &[u8]) -> bool {
 }
 
 fn rust(line: String) -> Option<Answer> {
-    Some(Answer {
-        by: By::Rust,
-        lines: vec![line],
-    })
+    Some(Answer::new(By::Rust, vec![line]))
 }
 
 fn limits(number: usize) -> Option<Answer> {
@@ -134,17 +159,11 @@ fn limits(number: usize) -> Option<Answer> {
 }
 
 fn document(line: String) -> Option<Answer> {
-    Some(Answer {
-        by: By::Document,
-        lines: vec![line],
-    })
+    Some(Answer::new(By::Document, vec![line]))
 }
 
 fn stand_in(yes: bool) -> Option<Answer> {
-    Some(Answer {
-        by: By::StandIn,
-        lines: vec![yes_no(yes)],
-    })
+    Some(Answer::new(By::StandIn, vec![yes_no(yes)]))
 }
 
 fn yes_no(yes: bool) -> String {
@@ -168,20 +187,23 @@ fn find(store: &file::Store, name: &BStr) -> String {
     }
 }
 
-fn follow(store: &file::Store, name: &BStr) -> String {
+/// The answer, and whether demand 2's exception is met.
+fn follow(store: &file::Store, name: &BStr) -> (String, bool) {
     let mut r = match store.try_find(name) {
         Ok(Some(r)) => r,
-        Ok(None) => return "absent".into(),
-        Err(err) => return format!("refused {}", number(&err)),
+        Ok(None) => return ("absent".into(), false),
+        Err(err) => return (format!("refused {}", number(&err)), false),
     };
+    let symbolic = matches!(r.target, Target::Symbolic(_));
     let packed = store.cached_packed_buffer().expect("it was read a moment ago");
-    match r.follow_to_object_packed(store, packed.as_ref().map(|b| &***b)) {
+    let line = match r.follow_to_object_packed(store, packed.as_ref().map(|b| &***b)) {
         Ok(id) => format!("id {id} {}", hex(r.name.as_bstr())),
         Err(err) => match number(&err).as_str() {
             n @ ("13" | "14" | "15") => format!("refused {n} {}", hex(r.name.as_bstr())),
             n => format!("refused {n}"),
         },
-    }
+    };
+    (line, symbolic && r.peeled.is_some())
 }
 
 fn list(store: &file::Store) -> Vec<String> {

@@ -43,9 +43,10 @@ fn refusals(of: &[u64]) -> String {
         .join(", ")
 }
 
-/// What is no comparison with the supplied Rust.
+/// What the table does not say.
 fn print_apart(c: &Counts) {
     println!("\nsteps of listings compared: {}", c.steps);
+    println!("demand 2's exception met, and compared all the same: {}", c.into_peeled);
     println!("besides, by document 01 alone (3, 5 and fitness): {}", c.document);
     println!(
         "besides, by the stand-in for gix-validate (well formed, complete): {}",

@@ -35,10 +35,14 @@ pub fn run(scratch: &Path, replay: &Replay, seed: u64, count: u64) -> io::Result
     let started = std::time::Instant::now();
     let mut counts = Counts::default();
     let mut first = 0;
-    let (corners, mut differences) = match corners::run(&scratch.join("corner"), replay)? {
-        Ok(number) => (number, Vec::new()),
-        Err(d) => (0, vec![*d]),
-    };
+    let mut differences = Vec::new();
+    match corners::run(&scratch.join("corner"), replay)? {
+        Ok(number) => println!("{number} cases written by hand, answered on both sides as they say"),
+        Err(text) => {
+            println!("DIFFERENCE in a case written by hand\n  {text}");
+            return Ok(false);
+        }
+    }
     while counts.total() < count && differences.is_empty() {
         let (more, different) = round(scratch, replay, seed, first)?;
         counts.add(&more);
@@ -51,7 +55,6 @@ pub fn run(scratch: &Path, replay: &Replay, seed: u64, count: u64) -> io::Result
             shrink::show(&shrink::shrink(&scratch.join("shrink"), replay, d.clone()))
         );
     }
-    println!("{corners} corners written by hand, answered as they say");
     let covered = report::print(&counts, seed, count, started.elapsed());
     println!("{} differences", differences.len());
     Ok(differences.is_empty() && covered)
