@@ -235,12 +235,6 @@ pub fn run(dir: &Path, replay: &Replay) -> io::Result<Result<usize, String>> {
 }
 
 impl Corner {
-    fn snapshot(&self) -> Snapshot {
-        let mut s = Snapshot::default();
-        self.held.iter().for_each(|line| hold(&mut s, line));
-        s
-    }
-
     fn question(&self) -> Question {
         match self.question.split_once(' ') {
             Some(("find", name)) => Question::Find(expanded(name)),
@@ -250,7 +244,7 @@ impl Corner {
     }
 
     fn ask_rust(&self, dir: &Path) -> io::Result<Vec<String>> {
-        let layout = Layout::new(dir, &self.snapshot())?;
+        let layout = Layout::new(dir, &snapshot(self.held))?;
         let namespace = self.namespace.map(expanded);
         let answer = Oracle::without_limits(&layout, namespace.as_ref()).ask(&self.question());
         let mut lines = answer.expect("the Rust answers").lines;
@@ -261,10 +255,20 @@ impl Corner {
     fn ask_replay(&self, replay: &Replay) -> io::Result<Vec<String>> {
         let namespace = text::namespace(self.namespace.map(expanded).as_ref());
         let question = text::question(&self.question(), STEPS, b"");
-        let answers = replay.ask(format!("{}{namespace}{question}\n", text::setters(&self.snapshot())))?;
+        let answers = replay.ask(format!(
+            "{}{namespace}{question}\n",
+            text::setters(&snapshot(self.held))
+        ))?;
         let lines = answers.lines().map(|l| l.split(" at ").next().unwrap_or(l));
         Ok(lines.filter(|l| *l != "ended").map(str::to_owned).collect())
     }
+}
+
+/// The snapshot that lines like a corner's describe.
+pub fn snapshot(held: &[&str]) -> Snapshot {
+    let mut s = Snapshot::default();
+    held.iter().for_each(|line| hold(&mut s, line));
+    s
 }
 
 fn hold(s: &mut Snapshot, line: &str) {

@@ -17,6 +17,7 @@ pub struct Item {
 
 pub const CHECK: &str = "check-ref-format";
 pub const LIST: &str = "for-each-ref";
+pub const SEARCH: &str = "cat-file";
 /// What a listing shows here while git leaves it out.
 pub const DANGLING: &str = "symbolic, leads to no id";
 
@@ -30,7 +31,7 @@ pub struct Rule {
 }
 
 /// In the order in which they are tried.
-pub const RULES: [Rule; 11] = [
+pub const RULES: [Rule; 10] = [
     Rule {
         name: "leading dash",
         text: "check-ref-format takes a name that begins with a dash for an option",
@@ -47,23 +48,14 @@ pub const RULES: [Rule; 11] = [
         holds: |w, i| i.question == LIST && w.is_shared_in_worktree(&i.name),
     },
     Rule {
-        name: "outside refs/",
-        text: "for-each-ref lists names under refs/ only",
-        holds: |_, i| i.question == LIST && !i.name.starts_with(b"refs/") && i.git.is_empty(),
+        name: "packed HEAD",
+        text: "for-each-ref leaves out a packed HEAD",
+        holds: |_, i| i.question == LIST && i.name == b"HEAD" && i.git.is_empty(),
     },
     Rule {
         name: "contents",
-        text: "git takes other blanks around a target, ends it at NUL or the file's end only, and refuses an id followed by a byte that is no blank",
+        text: "git takes other blanks around a target, ends it at NUL or the file's end, takes any well-formed one, and refuses an id followed by other than a blank",
         holds: |w, _| w.files.iter().any(|e| git_reads(&e.what) != we_read(&e.what)),
-    },
-    Rule {
-        name: "one-level target",
-        text: "git refuses a symbolic target without a slash, HEAD among them",
-        holds: |w, _| {
-            w.files
-                .iter()
-                .any(|e| we_read(&e.what).is_some_and(|t| !t.is_empty() && !t.contains(&b'/')))
-        },
     },
     Rule {
         name: "worktree names",
@@ -73,7 +65,7 @@ pub const RULES: [Rule; 11] = [
     Rule {
         name: "packed private",
         text: "git also seeks pseudo names and refs/worktree/ in packed-refs",
-        holds: |w, _| w.sought.iter().any(|n| never_packed(n) && w.is_packed(n)),
+        holds: |w, _| w.sought.iter().any(|n| w.is_packed_private(n)),
     },
     Rule {
         name: "as it stands",
@@ -100,12 +92,18 @@ pub struct Way<'a> {
 }
 
 impl<'a> Way<'a> {
-    pub fn new(s: &'a Snapshot, start: &[u8]) -> Self {
+    /// A search starts at the name; a listing only follows what the files of the name hold; a name's form needs no way.
+    pub fn new(s: &'a Snapshot, item: &Item) -> Self {
         let mut way = Way {
             s,
-            sought: vec![start.to_vec()],
+            sought: Vec::new(),
             files: Vec::new(),
         };
+        match item.question {
+            CHECK => {}
+            LIST => way.take_up(std::slice::from_ref(&item.name)),
+            _ => way.sought.push(item.name.clone()),
+        }
         let mut next = 0;
         while next < way.sought.len() {
             way.meet(&way.sought[next].clone());
@@ -119,11 +117,16 @@ impl<'a> Way<'a> {
         RULES.iter().position(|r| (r.holds)(self, item))
     }
 
-    /// Take up the files that stand for a name, and the names that they hold.
+    /// Whatever either side may read for a name.
     fn meet(&mut self, name: &[u8]) {
         let mut paths = further(name);
         paths.push(name.to_vec());
         paths.extend(without_worktree(name).map(<[u8]>::to_vec));
+        self.take_up(&paths);
+    }
+
+    /// Take up files, and the names that they hold.
+    fn take_up(&mut self, paths: &[Bytes]) {
         let entries = self.s.worktree.iter().chain(self.s.common.iter().flatten());
         for e in entries.filter(|e| paths.contains(&e.name)) {
             self.files.push(e);
@@ -138,6 +141,15 @@ impl<'a> Way<'a> {
     fn is_held(&self, name: &[u8]) -> bool {
         let mut entries = self.s.worktree.iter().chain(self.s.common.iter().flatten());
         entries.any(|e| e.name == name) || self.is_packed(name)
+    }
+
+    fn is_held_shared(&self, name: &[u8]) -> bool {
+        let shared = self.s.common.as_ref().unwrap_or(&self.s.worktree);
+        let own = |w: &Bytes| name.strip_prefix(&[b"worktrees/", &w[..], b"/"].concat()[..]);
+        let nested = self.s.nested.as_ref().and_then(own);
+        shared.iter().any(|e| e.name == name)
+            || nested.is_some_and(|own| self.s.worktree.iter().any(|e| e.name == own))
+            || self.is_packed(name)
     }
 
     fn is_held_further(&self, name: &[u8]) -> bool {
@@ -157,7 +169,7 @@ impl<'a> Way<'a> {
         };
         match base.iter().find(|e| e.name == name) {
             Some(e) => we_read(&e.what).is_some() && git_reads(&e.what).is_some(),
-            None => self.is_packed(name) && !never_packed(name),
+            None => self.is_packed(name) && !self.is_packed_private(name),
         }
     }
 
@@ -165,11 +177,20 @@ impl<'a> Way<'a> {
         self.s.common.is_some() && !is_per_worktree(name) && self.s.worktree.iter().any(|e| e.name == name)
     }
 
+    /// The name is read differently, and something is there to be read.
     fn is_worktree_name(&self, name: &[u8]) -> bool {
         match without_worktree(name) {
-            Some(rest) => !is_per_worktree(rest) || self.is_packed(name) || self.is_packed(rest),
-            None => name.starts_with(b"worktrees/"),
+            Some(rest) if is_per_worktree(rest) => self.is_packed(name) || self.is_packed(rest),
+            Some(rest) => self.is_held_shared(name) || self.is_held_shared(rest),
+            None => name.starts_with(b"worktrees/") && self.is_held_shared(name),
         }
+    }
+
+    /// Only a record has the name, and only git seeks it there.
+    fn is_packed_private(&self, name: &[u8]) -> bool {
+        let is_file = self.s.worktree.iter().any(|e| e.name == name);
+        let never = name.starts_with(b"refs/worktree/") || is_pseudo(name);
+        never && self.is_packed(name) && !is_file
     }
 }
 
@@ -213,10 +234,6 @@ fn is_per_worktree(name: &[u8]) -> bool {
     is_pseudo(name) || dirs.iter().any(|d| name.starts_with(d))
 }
 
-fn never_packed(name: &[u8]) -> bool {
-    name.starts_with(b"refs/worktree/") || is_pseudo(name)
-}
-
 /// A file's symbolic target, or the empty name for an id, as the supplied Rust reads it.
 fn we_read(what: &Loose) -> Option<Bytes> {
     match what {
@@ -234,8 +251,7 @@ fn git_reads(what: &Loose) -> Option<Bytes> {
     if let Some(rest) = text.strip_prefix(b"ref:") {
         let start = rest.iter().position(|b| !blank(b)).unwrap_or(rest.len());
         let target = &rest[start..];
-        let one_level = !target.contains(&b'/');
-        return (well_formed(target) && (!one_level || is_pseudo(target))).then(|| target.to_vec());
+        return well_formed(target).then(|| target.to_vec());
     }
     let id = text.get(..40)?;
     (id.iter().all(u8::is_ascii_hexdigit) && text.get(40).is_none_or(blank)).then(Vec::new)

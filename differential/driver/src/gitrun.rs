@@ -11,9 +11,10 @@ use std::{
 };
 
 use crate::{
+    corners,
     generate::{self, Style},
     git::{self, Git},
-    gitrules::{CHECK, DANGLING, Item, LIST, NO_ID, RULES, Way},
+    gitrules::{CHECK, DANGLING, Item, LIST, NO_ID, RULES, SEARCH, Way},
     layout::Layout,
     names,
     replay::Replay,
@@ -50,7 +51,14 @@ impl Counts {
 pub fn run(scratch: &Path, replay: &Replay, seed: u64, count: u64) -> io::Result<bool> {
     let git = Git::new(scratch)?;
     println!("{}", git.version()?);
-    let (next, counts) = (AtomicU64::new(0), Mutex::new(Counts::default()));
+    let failures = smallest(&scratch.join("smallest"), &git, replay)?;
+    let (next, counts) = (
+        AtomicU64::new(0),
+        Mutex::new(Counts {
+            failures,
+            ..Counts::default()
+        }),
+    );
     thread::scope(|scope| {
         let workers: Vec<_> = (0..THREADS)
             .map(|n| {
@@ -82,12 +90,70 @@ pub fn run(scratch: &Path, replay: &Replay, seed: u64, count: u64) -> io::Result
     Ok(report(&counts.into_inner().expect("no worker panicked")))
 }
 
+/// For each rule its smallest input, as in docs/DIFFERENCES.md, and the question in which it shows.
+const SMALLEST: [(&str, &[&str], &str, &str); RULES.len()] = [
+    ("leading dash", &[], CHECK, "-a"),
+    ("dangling", &["w:refs/a=ref: refs/b"], LIST, "refs/a"),
+    ("shared in worktree", &["w:refs/heads/a=#1", "c:"], LIST, "refs/heads/a"),
+    ("packed HEAD", &["p:HEAD=#1"], LIST, "HEAD"),
+    ("contents", &["w:refs/a=ref:refs/b", "w:refs/b=#1"], SEARCH, "refs/a"),
+    (
+        "worktree names",
+        &["w:refs/heads/a=#1"],
+        SEARCH,
+        "main-worktree/refs/heads/a",
+    ),
+    ("packed private", &["p:refs/worktree/a=#1"], SEARCH, "refs/worktree/a"),
+    (
+        "as it stands",
+        &["w:refs/a=ref: tags/b", "w:tags/b=#1"],
+        SEARCH,
+        "refs/a",
+    ),
+    ("candidates", &["w:tags/refs/a=#1"], SEARCH, "refs/a"),
+    (
+        "seeks on",
+        &["w:HEAD=ref: refs/a", "w:refs/tags/HEAD=#1"],
+        SEARCH,
+        "HEAD",
+    ),
+];
+
+/// Show each rule on its smallest input; gives those that do not differ there, or by another rule.
+fn smallest(dir: &Path, git: &Git, replay: &Replay) -> io::Result<Vec<String>> {
+    let mut wrong = Vec::new();
+    for (rule, held, question, name) in SMALLEST {
+        let mut s = corners::snapshot(held);
+        git::adapt(&mut s, &git.ids);
+        let layout = Layout::new(dir, &s)?;
+        git::complete(&layout)?;
+        let name = name.as_bytes().to_vec();
+        let items = match question {
+            CHECK => names_items(git, replay, vec![name.clone()])?,
+            LIST => list_items(git, replay, &layout, &s)?,
+            _ => search_items(git, replay, &layout, &s, std::slice::from_ref(&name))?,
+        };
+        let item = items.iter().find(|i| i.question == question && i.name == name);
+        let explained = item
+            .filter(|i| i.ours != i.git)
+            .and_then(|i| Way::new(&s, i).explain(i));
+        if explained.map(|place| RULES[place].name) != Some(rule) {
+            wrong.push(format!(
+                "{rule}: not shown by its smallest input\n{}",
+                shrink::show_snapshot(&s)
+            ));
+        }
+    }
+    Ok(wrong)
+}
+
 fn one(dir: &Path, git: &Git, replay: &Replay, case: &Case, rng: &mut Rng, counts: &Mutex<Counts>) -> io::Result<()> {
     let s = &case.snapshot;
     let layout = Layout::new(dir, s)?;
     git::complete(&layout)?;
-    let mut items = names_items(git, replay, rng)?;
-    items.extend(search_items(git, replay, &layout, case)?);
+    let names = (0..3).map(|_| names::bytes(rng)).filter(|n| !n.contains(&0)).collect();
+    let mut items = names_items(git, replay, names)?;
+    items.extend(search_items(git, replay, &layout, s, &full_names(case))?);
     items.extend(list_items(git, replay, &layout, s)?);
     let mut counts = counts.lock().expect("no worker panicked");
     for item in items {
@@ -95,7 +161,7 @@ fn one(dir: &Path, git: &Git, replay: &Replay, case: &Case, rng: &mut Rng, count
             *counts.agreed.entry(item.question).or_default() += 1;
             continue;
         }
-        match Way::new(s, &item.name).explain(&item) {
+        match Way::new(s, &item).explain(&item) {
             Some(rule) => *counts.ruled.entry((item.question, rule)).or_default() += 1,
             None => counts.failures.push(show(s, &item)),
         }
@@ -114,8 +180,7 @@ fn show(s: &Snapshot, item: &Item) -> String {
     )
 }
 
-fn names_items(git: &Git, replay: &Replay, rng: &mut Rng) -> io::Result<Vec<Item>> {
-    let names: Vec<Bytes> = (0..3).map(|_| names::bytes(rng)).filter(|n| !n.contains(&0)).collect();
+fn names_items(git: &Git, replay: &Replay, names: Vec<Bytes>) -> io::Result<Vec<Item>> {
     let questions: String = names.iter().map(|n| format!("wellformed {}\n", hex(n))).collect();
     let answers = replay.ask(questions)?;
     let mut items = Vec::new();
@@ -149,20 +214,19 @@ fn full_names(case: &Case) -> Vec<Bytes> {
     out
 }
 
-fn search_items(git: &Git, replay: &Replay, layout: &Layout, case: &Case) -> io::Result<Vec<Item>> {
-    let names = full_names(case);
+fn search_items(git: &Git, replay: &Replay, layout: &Layout, s: &Snapshot, names: &[Bytes]) -> io::Result<Vec<Item>> {
     if names.is_empty() {
         return Ok(Vec::new());
     }
     let questions: String = names.iter().map(|n| format!("follow {}\n", hex(n))).collect();
-    let answers = replay.ask(text::setters(&case.snapshot) + "namespace ~\n" + &questions)?;
-    let theirs = git.resolve(&layout.worktree, &names)?;
+    let answers = replay.ask(text::setters(s) + "namespace ~\n" + &questions)?;
+    let theirs = git.resolve(&layout.worktree, names)?;
     let word = |id: Option<Bytes>| id.map_or(NO_ID.into(), |id| id.escape_ascii().to_string());
     let mut items = Vec::new();
     for ((name, ours), git) in names.iter().zip(answers.lines()).zip(theirs) {
         let ours = id_of(ours).unwrap_or(NO_ID).to_owned();
         items.push(Item {
-            question: "cat-file",
+            question: SEARCH,
             name: name.clone(),
             ours,
             git: word(git),
