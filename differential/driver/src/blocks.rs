@@ -61,11 +61,7 @@ fn block(kind: u8, name: &[u8], content: &[u8]) -> [u8; 512] {
 /// What `fit` answers, from the snapshot alone: the regions made here are never damaged.
 pub fn fitness(s: &Snapshot) -> String {
     let r = regions(s);
-    let named = [
-        ("worktree", Some(&r.worktree)),
-        ("common", r.common.as_ref()),
-        ("packed", r.packed.as_ref()),
-    ];
+    let named = [("worktree", Some(&r.worktree)), ("common", r.common.as_ref()), ("packed", r.packed.as_ref())];
     for (region, bytes) in named {
         let mut last: Option<&[u8]> = None;
         for (i, b) in bytes.into_iter().flat_map(|b| b.chunks(512)).enumerate() {

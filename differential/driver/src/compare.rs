@@ -199,13 +199,8 @@ pub fn ask_both(
     namespace: Option<&Bytes>,
     q: &Question,
 ) -> io::Result<Option<Difference>> {
-    let case = Case {
-        snapshot: s.clone(),
-        groups: vec![Group {
-            namespace: namespace.cloned(),
-            questions: vec![q.clone()],
-        }],
-    };
+    let case =
+        Case { snapshot: s.clone(), groups: vec![Group { namespace: namespace.cloned(), questions: vec![q.clone()] }] };
     let mut counts = Counts::default();
     let asked = ask_rust(dir, &case, &mut counts)?;
     let answers = replay.ask(questions(s, &asked))?;

@@ -40,21 +40,10 @@ const fn differs(
     rust: &'static str,
     here: &'static str,
 ) -> Corner {
-    Corner {
-        held,
-        namespace,
-        question,
-        rust,
-        here,
-    }
+    Corner { held, namespace, question, rust, here }
 }
 
-const FOUR: &[&str] = &[
-    "w:HEAD=ref: refs/a",
-    "w:refs/a=ref: refs/b",
-    "w:refs/b=ref: refs/c",
-    "w:refs/c=ref: HEAD",
-];
+const FOUR: &[&str] = &["w:HEAD=ref: refs/a", "w:refs/a=ref: refs/b", "w:refs/b=ref: refs/c", "w:refs/c=ref: HEAD"];
 const FIVE: &[&str] = &[
     "w:HEAD=ref: refs/a",
     "w:refs/a=ref: refs/b",
@@ -73,77 +62,35 @@ const FIFTH: &[&str] = &[
 
 const CORNERS: &[Corner] = &[
     // An object target ends following, peeled id or not.
-    at(
-        &["w:HEAD=ref: refs/tags/v", "p:refs/tags/v=#1^#2"],
-        "follow HEAD",
-        "id #1 `refs/tags/v`",
-    ),
+    at(&["w:HEAD=ref: refs/tags/v", "p:refs/tags/v=#1^#2"], "follow HEAD", "id #1 `refs/tags/v`"),
     // A malformed file makes the names below it absent in search; the listing shows them.
     at(&["w:refs/heads/a.=#1", "p:refs/heads/a./b=#2"], "find a./b", "absent"),
-    at(
-        &["w:refs/heads/a.=#1", "p:refs/heads/a./b=#2"],
-        "list",
-        "ref `refs/heads/a./b` object #2 ~",
-    ),
+    at(&["w:refs/heads/a.=#1", "p:refs/heads/a./b=#2"], "list", "ref `refs/heads/a./b` object #2 ~"),
     // A full name is also sought with tags/, heads/ and remotes/ in front.
-    at(
-        &["w:tags/refs/heads/a=#1"],
-        "find refs/heads/a",
-        "found `tags/refs/heads/a` object #1 ~",
-    ),
-    at(
-        &["p:heads/refs/x=#1"],
-        "find refs/x",
-        "found `heads/refs/x` object #1 ~",
-    ),
+    at(&["w:tags/refs/heads/a=#1"], "find refs/heads/a", "found `tags/refs/heads/a` object #1 ~"),
+    at(&["p:heads/refs/x=#1"], "find refs/x", "found `heads/refs/x` object #1 ~"),
     at(&["p:heads/refs/x=#1"], "find heads/refs/x", "absent"),
     // A packed private name is found through a worktree only.
     at(&["p:refs/worktree/x=#1"], "find refs/worktree/x", "absent"),
-    at(
-        &["p:refs/worktree/x=#1"],
-        "find main-worktree/refs/worktree/x",
-        "found `refs/worktree/x` object #1 ~",
-    ),
-    at(
-        &["p:refs/worktree/x=#1"],
-        "find worktrees/w/refs/worktree/x",
-        "found `refs/worktree/x` object #1 ~",
-    ),
+    at(&["p:refs/worktree/x=#1"], "find main-worktree/refs/worktree/x", "found `refs/worktree/x` object #1 ~"),
+    at(&["p:refs/worktree/x=#1"], "find worktrees/w/refs/worktree/x", "found `refs/worktree/x` object #1 ~"),
     // Whether a worktree exists is never asked.
     at(
         &["w:refs/heads/m=#1"],
         "find worktrees/nobody/refs/heads/m",
         "found `worktrees/nobody/refs/heads/m` object #1 ~",
     ),
-    at(
-        &["w:worktrees/v/refs/heads/m=#1"],
-        "find worktrees/v/refs/heads/m",
-        "absent",
-    ),
+    at(&["w:worktrees/v/refs/heads/m=#1"], "find worktrees/v/refs/heads/m", "absent"),
     // A cycle that is none.
-    in_n(
-        &["w:Nrefs/s=ref: NNrefs/c", "w:NNrefs/c=ref: refs/c", "w:Nrefs/c=#1"],
-        "follow s",
-        "refused 14 `refs/c`",
-    ),
+    in_n(&["w:Nrefs/s=ref: NNrefs/c", "w:NNrefs/c=ref: refs/c", "w:Nrefs/c=#1"], "follow s", "refused 14 `refs/c`"),
     // An object under a seen name.
     at(
-        &[
-            "w:HEAD=ref: refs/bisect/x",
-            "w:refs/bisect/x=ref: worktrees/w/refs/bisect/x",
-            "c:",
-            "p:refs/bisect/x=#1",
-        ],
+        &["w:HEAD=ref: refs/bisect/x", "w:refs/bisect/x=ref: worktrees/w/refs/bisect/x", "c:", "p:refs/bisect/x=#1"],
         "follow HEAD",
         "refused 14 `refs/bisect/x`",
     ),
     at(
-        &[
-            "w:HEAD=ref: refs/bisect/x",
-            "w:refs/bisect/x=ref: worktrees/w/refs/bisect/x",
-            "c:",
-            "p:refs/bisect/x=#1",
-        ],
+        &["w:HEAD=ref: refs/bisect/x", "w:refs/bisect/x=ref: worktrees/w/refs/bisect/x", "c:", "p:refs/bisect/x=#1"],
         "follow refs/bisect/x",
         "id #1 `refs/bisect/x`",
     ),
@@ -151,11 +98,7 @@ const CORNERS: &[Corner] = &[
     in_n(&["c:Nrefs/bisect/y=#1"], "list", "ref `refs/bisect/y` object #1 ~"),
     in_n(&["c:Nrefs/bisect/y=#1"], "find refs/bisect/y", "absent"),
     // A stripped target is sought unchecked.
-    in_n(
-        &["w:NHEAD=ref: N@", "w:Nrefs/heads/@=#1"],
-        "follow HEAD",
-        "id #1 `refs/heads/@`",
-    ),
+    in_n(&["w:NHEAD=ref: N@", "w:Nrefs/heads/@=#1"], "follow HEAD", "id #1 `refs/heads/@`"),
     in_n(&["w:Nrefs/heads/@=#1"], "find @", "refused 4"),
     // A packed HEAD is listed and never found.
     at(&["p:HEAD=#1"], "find HEAD", "absent"),
@@ -164,11 +107,7 @@ const CORNERS: &[Corner] = &[
     at(&["w:refs/x=junk", "w:refs/tags/x=#1"], "find x", "refused 10"),
     // Misreadings of document 01, and its cases of following.
     at(&["p:refs/remotes/x/HEAD=#1"], "find x", "absent"),
-    at(
-        &["w:refs/remotes/x/HEAD=#1"],
-        "find x",
-        "found `refs/remotes/x/HEAD` object #1 ~",
-    ),
+    at(&["w:refs/remotes/x/HEAD=#1"], "find x", "found `refs/remotes/x/HEAD` object #1 ~"),
     at(&["w:refs/a=#1", "p:refs/a/b=#2"], "find refs/a/b", "absent"),
     at(FOUR, "follow HEAD", "refused 14 `HEAD`"),
     at(FIVE, "follow HEAD", "refused 15 `HEAD`"),
@@ -176,33 +115,15 @@ const CORNERS: &[Corner] = &[
     at(FIFTH, "follow refs/a", "id #1 `refs/e`"),
     at(&["w:HEAD=ref: refs/a"], "follow HEAD", "refused 13 `HEAD`"),
     // One name in three regions, and private names.
-    at(
-        &["w:refs/a=#1", "c:refs/a=#2", "p:refs/a=#3"],
-        "list",
-        "ref `refs/a` object #1 ~",
-    ),
-    at(
-        &["c:refs/bisect/a=#1", "c:refs/b=#2"],
-        "list",
-        "ref `refs/b` object #2 ~",
-    ),
+    at(&["w:refs/a=#1", "c:refs/a=#2", "p:refs/a=#3"], "list", "ref `refs/a` object #1 ~"),
+    at(&["c:refs/bisect/a=#1", "c:refs/b=#2"], "list", "ref `refs/b` object #2 ~"),
     at(&["w:refs/heads/a=#1", "c:"], "find a", "absent"),
-    at(
-        &["p:refs/heads/m=#1"],
-        "find main-worktree/refs/heads/m",
-        "found `refs/heads/m` object #1 ~",
-    ),
+    at(&["p:refs/heads/m=#1"], "find main-worktree/refs/heads/m", "found `refs/heads/m` object #1 ~"),
     in_n(&["w:Nrefs/heads/m=#1"], "find Nrefs/heads/m", "absent"),
     // Intended differences.
     differs(&[], None, "find y*251", "absent", "refused 3"),
     differs(&[], Some("y*235"), "list", "", "refused 5"),
-    differs(
-        &["w:HEAD=#1", "w:refs/x"],
-        None,
-        "find HEAD",
-        "found `HEAD` object #1 ~",
-        "refused 7 worktree 1",
-    ),
+    differs(&["w:HEAD=#1", "w:refs/x"], None, "find HEAD", "found `HEAD` object #1 ~", "refused 7 worktree 1"),
     differs(&["w:refs/x"], Some("n"), "list", "", "refused 7"),
     differs(
         &["p:Na=#1", "p:refs/a=#2", "p:Nb=#3"],
@@ -220,10 +141,7 @@ const STEPS: usize = 6;
 pub fn run(dir: &Path, replay: &Replay) -> io::Result<Result<usize, String>> {
     for corner in CORNERS {
         let answers = [corner.ask_rust(dir)?, corner.ask_replay(replay)?];
-        for (who, given, due) in [
-            ("the Rust", &answers[0], corner.rust),
-            ("replay", &answers[1], corner.here),
-        ] {
+        for (who, given, due) in [("the Rust", &answers[0], corner.rust), ("replay", &answers[1], corner.here)] {
             let due: Vec<String> = due.split('|').filter(|l| !l.is_empty()).map(answer_line).collect();
             if *given != due {
                 let Corner { held, question, .. } = corner;
@@ -255,10 +173,7 @@ impl Corner {
     fn ask_replay(&self, replay: &Replay) -> io::Result<Vec<String>> {
         let namespace = text::namespace(self.namespace.map(expanded).as_ref());
         let question = text::question(&self.question(), STEPS, b"");
-        let answers = replay.ask(format!(
-            "{}{namespace}{question}\n",
-            text::setters(&snapshot(self.held))
-        ))?;
+        let answers = replay.ask(format!("{}{namespace}{question}\n", text::setters(&snapshot(self.held))))?;
         let lines = answers.lines().map(|l| l.split(" at ").next().unwrap_or(l));
         Ok(lines.filter(|l| *l != "ended").map(str::to_owned).collect())
     }
@@ -276,32 +191,17 @@ fn hold(s: &mut Snapshot, line: &str) {
     let (name, content) = rest.split_once('=').unwrap_or((rest, ""));
     let (name, locked) = (expanded(name), !rest.contains('='));
     match region {
-        "w" if locked => s.worktree.push(Entry {
-            name,
-            what: Loose::Locked,
-        }),
-        "w" => s.worktree.push(Entry {
-            name,
-            what: Loose::File(expanded(content)),
-        }),
+        "w" if locked => s.worktree.push(Entry { name, what: Loose::Locked }),
+        "w" => s.worktree.push(Entry { name, what: Loose::File(expanded(content)) }),
         "c" => {
             let common = s.common.get_or_insert_default();
             if !name.is_empty() {
-                common.push(Entry {
-                    name,
-                    what: Loose::File(expanded(content)),
-                });
+                common.push(Entry { name, what: Loose::File(expanded(content)) });
             }
         }
         _ => {
-            let (id, peeled) = content
-                .split_once('^')
-                .map_or((content, None), |(id, p)| (id, Some(expanded(p))));
-            s.packed.get_or_insert_default().push(Packed::Record {
-                name,
-                id: expanded(id),
-                peeled,
-            });
+            let (id, peeled) = content.split_once('^').map_or((content, None), |(id, p)| (id, Some(expanded(p))));
+            s.packed.get_or_insert_default().push(Packed::Record { name, id: expanded(id), peeled });
         }
     }
 }
@@ -314,10 +214,7 @@ fn expanded(text: &str) -> Bytes {
     }
     if let Some((before, times)) = out.split_once("y*") {
         let (times, after) = times.split_at(3);
-        out = format!(
-            "{before}{}{after}",
-            "y".repeat(times.parse().expect("a number of three digits"))
-        );
+        out = format!("{before}{}{after}", "y".repeat(times.parse().expect("a number of three digits")));
     }
     while let Some(place) = out.find('N') {
         out.replace_range(place..=place, "refs/namespaces/n/");

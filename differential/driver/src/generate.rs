@@ -31,23 +31,13 @@ struct Maker<'a> {
 pub fn case(rng: &mut Rng, style: Style) -> Case {
     let namespace = rng.percent(style.namespaces).then(|| names::namespace(rng));
     let expansion = namespace.as_deref().and_then(oracle::expansion).unwrap_or_default();
-    let mut m = Maker {
-        rng,
-        style,
-        s: Snapshot::default(),
-        expansion,
-        asked: Vec::new(),
-    };
+    let mut m = Maker { rng, style, s: Snapshot::default(), expansion, asked: Vec::new() };
     m.snapshot();
     m.case(namespace)
 }
 
 pub fn id(rng: &mut Rng) -> Bytes {
-    let digits = if rng.percent(80) {
-        b"0123456789abcdef"
-    } else {
-        b"0123456789aBCDeF"
-    };
+    let digits = if rng.percent(80) { b"0123456789abcdef" } else { b"0123456789aBCDeF" };
     (0..40).map(|_| digits[rng.below(16)]).collect()
 }
 
@@ -181,21 +171,13 @@ impl Maker<'_> {
             2 if name.starts_with(b"refs/") => [b"worktrees/w/", name].concat(),
             _ => name.to_vec(),
         };
-        if self.rng.percent(50) {
-            name
-        } else {
-            [&self.expansion[..], &name].concat()
-        }
+        if self.rng.percent(50) { name } else { [&self.expansion[..], &name].concat() }
     }
 
     /// Put a file where search reads the name, mostly.
     fn place(&mut self, name: &[u8], what: Loose) {
         let (in_worktree, path) = home(name);
-        let path = if self.rng.percent(92) {
-            [&self.expansion[..], path].concat()
-        } else {
-            path.to_vec()
-        };
+        let path = if self.rng.percent(92) { [&self.expansion[..], path].concat() } else { path.to_vec() };
         let in_worktree = in_worktree ^ self.rng.percent(5);
         self.add(in_worktree, Entry { name: path, what });
     }
@@ -225,10 +207,8 @@ impl Maker<'_> {
 
     fn any_held(&mut self) -> Option<Bytes> {
         let loose = self.s.worktree.iter().chain(self.s.common.iter().flatten());
-        let all: Vec<&Bytes> = loose
-            .map(|e| &e.name)
-            .chain(self.s.packed.iter().flatten().filter_map(name_of))
-            .collect();
+        let all: Vec<&Bytes> =
+            loose.map(|e| &e.name).chain(self.s.packed.iter().flatten().filter_map(name_of)).collect();
         (!all.is_empty()).then(|| all[self.rng.below(all.len())].clone())
     }
 
@@ -287,13 +267,7 @@ impl Maker<'_> {
             };
             // The files of a nested worktree stand in common too, where no walk below refs/ meets them.
             let in_worktree = self.s.nested.is_none() && self.rng.percent(50);
-            self.add(
-                in_worktree,
-                Entry {
-                    name,
-                    what: Loose::Locked,
-                },
-            );
+            self.add(in_worktree, Entry { name, what: Loose::Locked });
         }
         let Some(packed) = &mut self.s.packed else { return };
         for _ in 0..self.rng.below(3) {
@@ -319,9 +293,7 @@ impl Maker<'_> {
         let ours = |name: &[u8]| name == b"worktrees" || name == b"worktrees/w" || name.starts_with(b"worktrees/w/");
         self.s.common.iter_mut().for_each(|c| c.retain(|e| !ours(&e.name)));
         // Mirrored names must fit into a block.
-        self.s
-            .worktree
-            .retain(|e| e.name.len() + b"worktrees/w/".len() <= LIMIT);
+        self.s.worktree.retain(|e| e.name.len() + b"worktrees/w/".len() <= LIMIT);
         self.s.empty.retain(|(_, name)| !ours(name));
     }
 
@@ -334,29 +306,16 @@ impl Maker<'_> {
                 questions.push(Question::List);
                 self.searches(&mut questions, self.style.names);
             }
-            groups.push(Group {
-                namespace: namespace.clone(),
-                questions,
-            });
+            groups.push(Group { namespace: namespace.clone(), questions });
         }
         let mut questions = vec![Question::Fit, Question::List];
         if fit {
-            let few = if namespace.is_some() {
-                self.style.names / 4
-            } else {
-                self.style.names
-            };
+            let few = if namespace.is_some() { self.style.names / 4 } else { self.style.names };
             self.searches(&mut questions, few);
         }
         self.on_names(&mut questions);
-        groups.push(Group {
-            namespace: None,
-            questions,
-        });
-        Case {
-            snapshot: self.s.clone(),
-            groups,
-        }
+        groups.push(Group { namespace: None, questions });
+        Case { snapshot: self.s.clone(), groups }
     }
 
     fn searches(&mut self, questions: &mut Vec<Question>, count: usize) {
@@ -375,11 +334,7 @@ impl Maker<'_> {
     fn on_names(&mut self, questions: &mut Vec<Question>) {
         let rng = &mut *self.rng;
         for _ in 0..2 {
-            let name = if rng.percent(40) {
-                names::any(rng)
-            } else {
-                names::bytes(rng)
-            };
+            let name = if rng.percent(40) { names::any(rng) } else { names::bytes(rng) };
             questions.push(Question::Category(name.clone()));
             questions.push(Question::WellFormed(name.clone()));
             questions.push(Question::Complete(name));
@@ -387,25 +342,16 @@ impl Maker<'_> {
             let other = names::bytes(rng);
             questions.push(Question::Order(names::near(rng, &other), other));
             questions.push(full_name(rng));
-            questions.push(Question::Expand(if rng.percent(50) {
-                names::namespace(rng)
-            } else {
-                names::bytes(rng)
-            }));
+            questions.push(Question::Expand(if rng.percent(50) { names::namespace(rng) } else { names::bytes(rng) }));
             questions.push(strip(rng));
-            let content = if rng.percent(60) {
-                odd_content(rng)
-            } else {
-                chosen_content(rng)
-            };
+            let content = if rng.percent(60) { odd_content(rng) } else { chosen_content(rng) };
             questions.push(Question::Decode(content[..content.len().min(LIMIT)].to_vec()));
         }
     }
 }
 
 fn rng_dir(rng: &mut Rng) -> &'static [u8] {
-    rng.pick(&["refs/", "refs/heads/", "refs/bisect/", "refs/tags/", "refs/heads/a/"])
-        .as_bytes()
+    rng.pick(&["refs/", "refs/heads/", "refs/bisect/", "refs/tags/", "refs/heads/a/"]).as_bytes()
 }
 
 fn chosen_content(rng: &mut Rng) -> Bytes {
@@ -421,18 +367,8 @@ fn full_name(rng: &mut Rng) -> Question {
     let linked = category.starts_with("Linked");
     Question::FullName {
         category,
-        worktree: (linked || rng.percent(20)).then(|| {
-            if rng.percent(80) {
-                b"w".to_vec()
-            } else {
-                names::bytes(rng)
-            }
-        }),
-        short: if rng.percent(50) {
-            names::any(rng)
-        } else {
-            names::bytes(rng)
-        },
+        worktree: (linked || rng.percent(20)).then(|| if rng.percent(80) { b"w".to_vec() } else { names::bytes(rng) }),
+        short: if rng.percent(50) { names::any(rng) } else { names::bytes(rng) },
     }
 }
 
@@ -440,10 +376,7 @@ fn strip(rng: &mut Rng) -> Question {
     let namespace = names::namespace(rng);
     let expansion = oracle::expansion(&namespace).unwrap_or_default();
     let name = names::bytes(rng);
-    Question::Strip {
-        name: names::inside(rng, &expansion, name),
-        namespace,
-    }
+    Question::Strip { name: names::inside(rng, &expansion, name), namespace }
 }
 
 fn name_of(line: &Packed) -> Option<&Bytes> {
@@ -456,18 +389,12 @@ fn name_of(line: &Packed) -> Option<&Bytes> {
 /// Where search reads the loose file of a name: in the worktree or not, and under which path. A guess that only guides
 /// the generator.
 fn home(name: &[u8]) -> (bool, &[u8]) {
-    let private = |n: &[u8]| {
-        [&b"refs/bisect/"[..], b"refs/worktree/", b"refs/rewritten/"]
-            .iter()
-            .any(|p| n.starts_with(p))
-    };
+    let private =
+        |n: &[u8]| [&b"refs/bisect/"[..], b"refs/worktree/", b"refs/rewritten/"].iter().any(|p| n.starts_with(p));
     if let Some(rest) = name.strip_prefix(b"main-worktree/") {
         return (false, rest);
     }
-    if let Some(rest) = name
-        .strip_prefix(b"worktrees/w/")
-        .or(name.strip_prefix(b"worktrees/v/"))
-    {
+    if let Some(rest) = name.strip_prefix(b"worktrees/w/").or(name.strip_prefix(b"worktrees/v/")) {
         let shared = rest.starts_with(b"refs/") && !private(rest);
         return (false, if shared { rest } else { name });
     }

@@ -23,10 +23,7 @@ pub struct Git {
 
 impl Git {
     pub fn new(scratch: &Path) -> io::Result<Self> {
-        let mut git = Git {
-            home: scratch.to_owned(),
-            ids: Vec::new(),
-        };
+        let mut git = Git { home: scratch.to_owned(), ids: Vec::new() };
         let objects = git.objects();
         fs::create_dir_all(&objects)?;
         let repository = scratch.join("template");
@@ -64,10 +61,7 @@ impl Git {
 
     pub fn well_formed(&self, name: &[u8]) -> io::Result<bool> {
         let mut c = self.command(None);
-        let out = c
-            .args(["check-ref-format", "--allow-onelevel"])
-            .arg(OsStr::from_bytes(name))
-            .output()?;
+        let out = c.args(["check-ref-format", "--allow-onelevel"]).arg(OsStr::from_bytes(name)).output()?;
         Ok(out.status.success())
     }
 
@@ -80,20 +74,12 @@ impl Git {
             let mut field = || fields.next().unwrap_or_default();
             (field(), field(), field())
         };
-        Ok(out
-            .stdout
-            .split(|b| *b == b'\n')
-            .filter(|l| !l.is_empty())
-            .map(line)
-            .collect())
+        Ok(out.stdout.split(|b| *b == b'\n').filter(|l| !l.is_empty()).map(line).collect())
     }
 
     pub fn rev_parse(&self, git_dir: &Path, name: &[u8]) -> io::Result<Option<Bytes>> {
         let mut c = self.command(Some(git_dir));
-        let out = c
-            .args(["rev-parse", "--verify", "--quiet"])
-            .arg(OsStr::from_bytes(name))
-            .output()?;
+        let out = c.args(["rev-parse", "--verify", "--quiet"]).arg(OsStr::from_bytes(name)).output()?;
         Ok(out.status.success().then(|| out.stdout.trim_ascii().to_vec()))
     }
 
@@ -107,20 +93,13 @@ impl Git {
             .stderr(Stdio::null())
             .spawn()?;
         // A few names fit into a pipe.
-        child
-            .stdin
-            .take()
-            .expect("it is piped")
-            .write_all(&[&names.join(&b'\n')[..], b"\n"].concat())?;
+        child.stdin.take().expect("it is piped").write_all(&[&names.join(&b'\n')[..], b"\n"].concat())?;
         let out = child.wait_with_output()?;
         let answers: Vec<_> = out.stdout.split(|b| *b == b'\n').take(names.len()).collect();
         if !out.status.success() || answers.len() != names.len() {
             return Err(io::Error::other("git cat-file failed"));
         }
-        Ok(answers
-            .iter()
-            .map(|a| (!a.contains(&b' ')).then(|| a.to_vec()))
-            .collect())
+        Ok(answers.iter().map(|a| (!a.contains(&b' ')).then(|| a.to_vec())).collect())
     }
 }
 
@@ -129,10 +108,7 @@ fn expect(c: &mut Command) -> io::Result<Output> {
     if out.status.success() {
         return Ok(out);
     }
-    Err(io::Error::other(format!(
-        "git failed: {}",
-        String::from_utf8_lossy(&out.stderr)
-    )))
+    Err(io::Error::other(format!("git failed: {}", String::from_utf8_lossy(&out.stderr))))
 }
 
 /// Make a snapshot into one that git takes for a repository: objects that exist, a HEAD, a directory `refs`.
@@ -153,15 +129,11 @@ pub fn adapt(s: &mut Snapshot, ids: &[Bytes]) {
             *peeled = peeled.as_ref().map(|p| real(p));
         }
     }
-    s.worktree
-        .retain(|e| e.name != b"refs" && (e.name != b"HEAD" || is_head(&e.what)));
+    s.worktree.retain(|e| e.name != b"refs" && (e.name != b"HEAD" || is_head(&e.what)));
     s.common.iter_mut().for_each(|c| c.retain(|e| e.name != b"refs"));
     s.worktree.retain(|e| !e.name.starts_with(b"HEAD/"));
     if !s.worktree.iter().any(|e| e.name == b"HEAD") {
-        s.worktree.push(Entry {
-            name: b"HEAD".to_vec(),
-            what: Loose::File(b"ref: refs/heads/a\n".to_vec()),
-        });
+        s.worktree.push(Entry { name: b"HEAD".to_vec(), what: Loose::File(b"ref: refs/heads/a\n".to_vec()) });
     }
 }
 

@@ -94,11 +94,7 @@ pub struct Way<'a> {
 impl<'a> Way<'a> {
     /// A search starts at the name; a listing only follows what the files of the name hold; a name's form needs no way.
     pub fn new(s: &'a Snapshot, item: &Item) -> Self {
-        let mut way = Way {
-            s,
-            sought: Vec::new(),
-            files: Vec::new(),
-        };
+        let mut way = Way { s, sought: Vec::new(), files: Vec::new() };
         match item.question {
             CHECK => {}
             LIST => way.take_up(std::slice::from_ref(&item.name)),
@@ -196,15 +192,7 @@ impl<'a> Way<'a> {
 
 /// Names that either side seeks besides the name itself.
 fn further(name: &[u8]) -> Vec<Bytes> {
-    let before = [
-        "refs/",
-        "refs/tags/",
-        "refs/heads/",
-        "refs/remotes/",
-        "tags/",
-        "heads/",
-        "remotes/",
-    ];
+    let before = ["refs/", "refs/tags/", "refs/heads/", "refs/remotes/", "tags/", "heads/", "remotes/"];
     let mut out: Vec<Bytes> = before.iter().map(|b| [b.as_bytes(), name].concat()).collect();
     out.push([b"refs/remotes/", name, b"/HEAD"].concat());
     out.push([b"remotes/", name, b"/HEAD"].concat());

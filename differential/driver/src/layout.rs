@@ -27,12 +27,7 @@ impl Layout {
             (Some(common), Some(name)) => common.join("worktrees").join(OsStr::from_bytes(name)),
             _ => root.join("worktree"),
         };
-        let mut layout = Layout {
-            root: root.to_owned(),
-            worktree,
-            common,
-            locked: Vec::new(),
-        };
+        let mut layout = Layout { root: root.to_owned(), worktree, common, locked: Vec::new() };
         layout.write(s)?;
         Ok(layout)
     }
@@ -70,11 +65,7 @@ impl Layout {
                 fs::create_dir_all(&path)?;
                 // Nobody sees these two.
                 write_file(&path.join("a"), 0o644, b"2222222222222222222222222222222222222222\n")?;
-                write_file(
-                    &path.join("sub/b"),
-                    0o644,
-                    b"3333333333333333333333333333333333333333\n",
-                )?;
+                write_file(&path.join("sub/b"), 0o644, b"3333333333333333333333333333333333333333\n")?;
                 self.locked.push(path);
                 Ok(())
             }
@@ -93,13 +84,7 @@ impl Drop for Layout {
 
 /// Write a file anew; an empty directory in its place makes way, and a missing one is made.
 fn write_file(path: &Path, mode: u32, content: &[u8]) -> io::Result<()> {
-    let create = || {
-        fs::OpenOptions::new()
-            .write(true)
-            .create_new(true)
-            .mode(mode)
-            .open(path)
-    };
+    let create = || fs::OpenOptions::new().write(true).create_new(true).mode(mode).open(path);
     let mut file = match create() {
         Ok(file) => file,
         Err(err) if err.kind() == io::ErrorKind::NotFound => {

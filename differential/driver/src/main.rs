@@ -4,11 +4,13 @@ mod compare;
 mod corners;
 mod generate;
 mod git;
+mod gititems;
 mod gitrules;
 mod gitrun;
 mod layout;
 mod names;
 mod oracle;
+mod parallel;
 mod record;
 mod replay;
 mod report;
@@ -64,9 +66,7 @@ fn main() -> ExitCode {
 fn start(args: &[String]) -> io::Result<bool> {
     let number = |i: usize, default: u64| match args.get(i) {
         None => Ok(default),
-        Some(word) => word
-            .parse()
-            .map_err(|_| io::Error::other(format!("not a number: {word}"))),
+        Some(word) => word.parse().map_err(|_| io::Error::other(format!("not a number: {word}"))),
     };
     match args.first().map(String::as_str) {
         Some("run") => {
@@ -95,12 +95,7 @@ fn start(args: &[String]) -> io::Result<bool> {
 /// The scratch directory, and `replay` where another user can run it: a copy, or itself if copies can't be run.
 fn prepare() -> io::Result<(Scratch, Replay)> {
     let path = env::var_os("COSVINT_REPLAY").map_or_else(|| PathBuf::from("target/bin/replay"), PathBuf::from);
-    let missing = |err| {
-        format!(
-            "{}: {err}; build it, or say in COSVINT_REPLAY where it is",
-            path.display()
-        )
-    };
+    let missing = |err| format!("{}: {err}; build it, or say in COSVINT_REPLAY where it is", path.display());
     let path = fs::canonicalize(&path).map_err(|err| io::Error::other(missing(err)))?;
     let scratch = Scratch::new()?;
     let copy = scratch.0.join("replay");
@@ -112,15 +107,11 @@ fn prepare() -> io::Result<(Scratch, Replay)> {
             return Ok((scratch, replay));
         }
     }
-    Err(io::Error::other(
-        "replay cannot be run by another user, or does not answer `?` to a line without shape",
-    ))
+    Err(io::Error::other("replay cannot be run by another user, or does not answer `?` to a line without shape"))
 }
 
 fn become_nobody(scratch: &Scratch) -> io::Result<()> {
     user::drop_privileges(&scratch.0).map_err(|err| {
-        io::Error::other(format!(
-            "run this as root, or as a user whom file permissions hold back: {err}"
-        ))
+        io::Error::other(format!("run this as root, or as a user whom file permissions hold back: {err}"))
     })
 }

@@ -41,11 +41,7 @@ pub struct Answer {
 
 impl Answer {
     fn new(by: By, lines: Vec<String>) -> Self {
-        Answer {
-            by,
-            lines,
-            into_peeled: false,
-        }
+        Answer { by, lines, into_peeled: false }
     }
 }
 
@@ -73,10 +69,7 @@ impl Oracle {
 
     /// Only what the Rust itself answers, to searches and listings.
     pub fn without_limits(layout: &Layout, namespace: Option<&Bytes>) -> Self {
-        Oracle {
-            limit: usize::MAX,
-            ..Oracle::new(layout, namespace, "")
-        }
+        Oracle { limit: usize::MAX, ..Oracle::new(layout, namespace, "") }
     }
 
     /// The answer, or none where the Rust's does not tell which number is due.
@@ -99,11 +92,9 @@ impl Oracle {
             }
             Question::List => self.on_store(None, list),
             Question::Category(n) => rust(category(n.as_bstr())),
-            Question::FullName {
-                category,
-                worktree,
-                short,
-            } => full_name(category, worktree.as_deref().unwrap_or(b""), short),
+            Question::FullName { category, worktree, short } => {
+                full_name(category, worktree.as_deref().unwrap_or(b""), short)
+            }
             Question::Expand(n) => expansion_answer(n),
             Question::Strip { namespace, name } => {
                 let ns = expand(namespace).ok()?;
@@ -249,12 +240,7 @@ fn category(name: &BStr) -> String {
         Category::LinkedPseudoRef { name } | Category::LinkedRef { name } => Some(name.to_vec()),
         _ => None,
     };
-    format!(
-        "{} {} {}",
-        word(&category),
-        hex_or_absent(worktree.as_ref()),
-        hex(short)
-    )
+    format!("{} {} {}", word(&category), hex_or_absent(worktree.as_ref()), hex(short))
 }
 
 pub const CATEGORIES: [&str; 12] = [

@@ -23,21 +23,13 @@ pub struct Output {
 impl Output {
     pub fn create(dir: &Path) -> io::Result<Self> {
         fs::create_dir_all(dir)?;
-        Ok(Output {
-            questions: File::create(dir.join("questions"))?,
-            answers: File::create(dir.join("answers"))?,
-        })
+        Ok(Output { questions: File::create(dir.join("questions"))?, answers: File::create(dir.join("answers"))? })
     }
 }
 
 /// Small snapshots, since a block is a thousand digits; now and then room for a long chain.
 fn style(rng: &mut Rng) -> Style {
-    Style {
-        blocks: if rng.percent(25) { 8 } else { 3 },
-        names: 14,
-        namespaces: 45,
-        odd: 100,
-    }
+    Style { blocks: if rng.percent(25) { 8 } else { 3 }, names: 14, namespaces: 45, odd: 100 }
 }
 
 const START: &str = "worktree -\ncommon ~\npacked ~\nnamespace ~\n";
@@ -86,9 +78,7 @@ fn worth(asked: &[Asked]) -> bool {
 
 /// Some answer is one of the rarer refusals.
 fn has_rare(asked: &[Asked]) -> bool {
-    asked
-        .iter()
-        .any(|a| matches!(text::refusal(&a.expected.lines[0]), Some(9 | 12 | 14 | 15)))
+    asked.iter().any(|a| matches!(text::refusal(&a.expected.lines[0]), Some(9 | 12 | 14 | 15)))
 }
 
 fn lines(case: &Case, asked: &[Asked]) -> (String, String) {
@@ -106,18 +96,9 @@ fn complete(questions: &str, answers: &str) -> bool {
     let missing: Vec<String> = kinds
         .filter(|k| !asked(k))
         .map(ToString::to_string)
-        .chain(
-            [4, 9, 10, 11, 12, 13, 14, 15]
-                .into_iter()
-                .filter(|n| !reached(*n))
-                .map(|n| n.to_string()),
-        )
+        .chain([4, 9, 10, 11, 12, 13, 14, 15].into_iter().filter(|n| !reached(*n)).map(|n| n.to_string()))
         .collect();
-    println!(
-        "{} questions answered, {} bytes in all",
-        answers.lines().count(),
-        questions.len() + answers.len()
-    );
+    println!("{} questions answered, {} bytes in all", answers.lines().count(), questions.len() + answers.len());
     if !missing.is_empty() {
         println!("missing: {}", missing.join(", "));
     }

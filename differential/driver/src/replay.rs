@@ -16,10 +16,7 @@ impl Replay {
 
     /// All answers to `questions`; a last line says so if the program failed.
     pub fn ask(&self, questions: String) -> io::Result<String> {
-        let mut child = Command::new(&self.0)
-            .stdin(Stdio::piped())
-            .stdout(Stdio::piped())
-            .spawn()?;
+        let mut child = Command::new(&self.0).stdin(Stdio::piped()).stdout(Stdio::piped()).spawn()?;
         let mut stdin = child.stdin.take().expect("it is piped");
         // Questions are written by another thread, since neither pipe holds a whole batch.
         let writer = thread::spawn(move || stdin.write_all(questions.as_bytes()));
@@ -29,11 +26,7 @@ impl Replay {
         let status = child.wait()?;
         read?;
         if !status.success() {
-            let end = if answers.is_empty() || answers.ends_with('\n') {
-                ""
-            } else {
-                "\n"
-            };
+            let end = if answers.is_empty() || answers.ends_with('\n') { "" } else { "\n" };
             answers += &format!("{end}replay ended with {status}\n");
         } else {
             written?;

@@ -10,10 +10,7 @@ const OFTEN: u64 = 1_000;
 /// Print the counts; says whether a full run has reached every number often enough.
 pub fn print(c: &Counts, seed: u64, count: u64, took: Duration) -> bool {
     let seconds = took.as_secs_f64();
-    println!(
-        "seed {seed}, {} snapshots, {} of them fit for search, {seconds:.0} s\n",
-        c.snapshots, c.fit
-    );
+    println!("seed {seed}, {} snapshots, {} of them fit for search, {seconds:.0} s\n", c.snapshots, c.fit);
     row("question", ["compared", "in namespace", "absent"], "refusals");
     for (kind, name) in Question::KINDS.iter().enumerate().filter(|(k, _)| c.compared[*k] > 0) {
         let numbers = [c.compared[kind], c.in_namespace[kind], c.absent[kind]];
@@ -28,19 +25,12 @@ pub fn print(c: &Counts, seed: u64, count: u64, took: Duration) -> bool {
 
 fn row(name: &str, numbers: [impl AsRef<str>; 3], rest: &str) {
     let [a, b, c] = numbers;
-    println!(
-        "{name:10} {:>9} {:>13} {:>9}  {rest}",
-        a.as_ref(),
-        b.as_ref(),
-        c.as_ref()
-    );
+    println!("{name:10} {:>9} {:>13} {:>9}  {rest}", a.as_ref(), b.as_ref(), c.as_ref());
 }
 
 fn refusals(of: &[u64]) -> String {
     let some = of.iter().enumerate().filter(|(_, n)| **n > 0);
-    some.map(|(number, n)| format!("{number}: {n}"))
-        .collect::<Vec<_>>()
-        .join(", ")
+    some.map(|(number, n)| format!("{number}: {n}")).collect::<Vec<_>>().join(", ")
 }
 
 /// What the table does not say.
@@ -48,10 +38,7 @@ fn print_apart(c: &Counts) {
     println!("\nsteps of listings compared: {}", c.steps);
     println!("demand 2's exception met, and compared all the same: {}", c.into_peeled);
     println!("besides, by document 01 alone (3, 5 and fitness): {}", c.document);
-    println!(
-        "besides, by the stand-in for gix-validate (well formed, complete): {}",
-        c.stand_in
-    );
+    println!("besides, by the stand-in for gix-validate (well formed, complete): {}", c.stand_in);
     println!("left out, where the Rust does not tell 3 from 4: {}", c.left_out);
 }
 

@@ -15,11 +15,7 @@ pub fn shrink(dir: &Path, replay: &Replay, mut d: Difference) -> Difference {
         let smaller = variants(&d).into_iter().find_map(|v| {
             let sound = stands(&v.snapshot) && (v.snapshot.fit() || !fit);
             sound
-                .then(|| {
-                    compare::ask_both(dir, replay, &v.snapshot, v.namespace.as_ref(), &v.question)
-                        .ok()
-                        .flatten()
-                })
+                .then(|| compare::ask_both(dir, replay, &v.snapshot, v.namespace.as_ref(), &v.question).ok().flatten())
                 .flatten()
         });
         match smaller {
@@ -128,9 +124,7 @@ fn simpler_files(what: &Loose) -> Vec<Loose> {
 /// With a part of names replaced everywhere by a shorter one, or left out everywhere.
 fn shorter(d: &Difference, out: &mut Vec<Difference>) {
     let mut parts: Vec<Bytes> = Vec::new();
-    each(&mut d.clone(), &mut |b| {
-        parts.extend(b.split(|c| *c == b'/').map(<[u8]>::to_vec))
-    });
+    each(&mut d.clone(), &mut |b| parts.extend(b.split(|c| *c == b'/').map(<[u8]>::to_vec)));
     parts.sort();
     parts.dedup();
     for part in parts.iter().filter(|p| !p.is_empty()) {
@@ -147,11 +141,7 @@ fn shorter(d: &Difference, out: &mut Vec<Difference>) {
 
 /// Every name of the difference, and every content.
 fn each(d: &mut Difference, f: &mut dyn FnMut(&mut Bytes)) {
-    let entries = d
-        .snapshot
-        .worktree
-        .iter_mut()
-        .chain(d.snapshot.common.iter_mut().flatten());
+    let entries = d.snapshot.worktree.iter_mut().chain(d.snapshot.common.iter_mut().flatten());
     for Entry { name, what } in entries {
         f(name);
         if let Loose::File(content) = what
@@ -187,21 +177,14 @@ fn without(name: &[u8], part: &[u8]) -> Bytes {
 
 fn replaced(name: &[u8], part: &[u8]) -> Bytes {
     let short = &part[..1];
-    let parts: Vec<&[u8]> = name
-        .split(|c| *c == b'/')
-        .map(|p| if p == part { short } else { p })
-        .collect();
+    let parts: Vec<&[u8]> = name.split(|c| *c == b'/').map(|p| if p == part { short } else { p }).collect();
     parts.join(&b'/')
 }
 
 /// The difference for a reader, then as lines for `replay`.
 pub fn show(d: &Difference) -> String {
     let mut out = show_snapshot(&d.snapshot);
-    let _ = writeln!(
-        out,
-        "  namespace {}",
-        d.namespace.as_ref().map_or("none".into(), |n| plain(n))
-    );
+    let _ = writeln!(out, "  namespace {}", d.namespace.as_ref().map_or("none".into(), |n| plain(n)));
     let _ = writeln!(out, "  question {}", plain_question(d));
     show_answers(&mut out, d);
     out
@@ -219,11 +202,7 @@ pub fn show_snapshot(s: &Snapshot) -> String {
         None => out += "  no common directory\n",
     }
     if let Some(name) = &s.nested {
-        let _ = writeln!(
-            out,
-            "  the worktree's directory is worktrees/{} of the common one",
-            plain(name)
-        );
+        let _ = writeln!(out, "  the worktree's directory is worktrees/{} of the common one", plain(name));
     }
     for line in s.packed.iter().flatten() {
         let _ = writeln!(out, "  packed {}", packed_line(line));
@@ -281,9 +260,8 @@ fn plain_word(word: &str) -> String {
     if !is_hex || word.is_empty() {
         return word.into();
     }
-    let bytes: Bytes = (0..word.len() / 2)
-        .map(|i| u8::from_str_radix(&word[2 * i..2 * i + 2], 16).unwrap_or(0))
-        .collect();
+    let bytes: Bytes =
+        (0..word.len() / 2).map(|i| u8::from_str_radix(&word[2 * i..2 * i + 2], 16).unwrap_or(0)).collect();
     plain(&bytes)
 }
 
@@ -301,11 +279,6 @@ fn show_answers(out: &mut String, d: &Difference) {
             let _ = writeln!(out, "  {who}: {}", plain_line(line));
         }
     }
-    let _ = write!(
-        out,
-        "For replay:\n{}{}",
-        text::setters(&d.snapshot),
-        text::namespace(d.namespace.as_ref())
-    );
+    let _ = write!(out, "For replay:\n{}{}", text::setters(&d.snapshot), text::namespace(d.namespace.as_ref()));
     let _ = writeln!(out, "{}", question_line(d));
 }

@@ -23,11 +23,7 @@ pub struct Entry {
 #[derive(Clone, Debug, PartialEq)]
 pub enum Packed {
     /// Ids are digits as they stand in the file.
-    Record {
-        name: Bytes,
-        id: Bytes,
-        peeled: Option<Bytes>,
-    },
+    Record { name: Bytes, id: Bytes, peeled: Option<Bytes> },
     /// A line that is no record: kind 5.
     Junk(Bytes),
 }
@@ -145,9 +141,7 @@ pub fn is_directory_of(outer: &[u8], inner: &[u8]) -> bool {
 pub fn can_stand(name: &[u8]) -> bool {
     name.len() <= LIMIT
         && !name.contains(&0)
-        && name
-            .split(|b| *b == b'/')
-            .all(|part| !part.is_empty() && part != b"." && part != b"..")
+        && name.split(|b| *b == b'/').all(|part| !part.is_empty() && part != b"." && part != b"..")
 }
 
 /// The entries can stand beside each other in one directory.

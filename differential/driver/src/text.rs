@@ -40,15 +40,9 @@ pub fn question(q: &Question, steps: usize, expansion: &[u8]) -> String {
         Question::Follow(n) => format!("follow {}", hex(n)),
         Question::List => format!("list {steps}"),
         Question::Category(n) => format!("category {}", hex(n)),
-        Question::FullName {
-            category,
-            worktree,
-            short,
-        } => format!(
-            "fullname {category} {} {}",
-            hex_or_absent(worktree.as_ref()),
-            hex(short)
-        ),
+        Question::FullName { category, worktree, short } => {
+            format!("fullname {category} {} {}", hex_or_absent(worktree.as_ref()), hex(short))
+        }
         Question::Expand(n) => format!("expand {}", hex(n)),
         Question::Strip { name, .. } => format!("strip {} {}", hex(expansion), hex(name)),
         Question::Decode(c) => format!("decode {}", hex(c)),

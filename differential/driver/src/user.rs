@@ -30,9 +30,5 @@ pub fn drop_privileges(dir: &Path) -> io::Result<()> {
     fs::set_permissions(&probe, fs::Permissions::from_mode(0o000))?;
     let refused = fs::read(&probe).is_err_and(|err| err.kind() == io::ErrorKind::PermissionDenied);
     fs::remove_file(&probe)?;
-    if refused {
-        Ok(())
-    } else {
-        Err(io::Error::other("permissions do not bite for this user"))
-    }
+    if refused { Ok(()) } else { Err(io::Error::other("permissions do not bite for this user")) }
 }

@@ -78,11 +78,7 @@ pub mod reference {
 
     /// The well-formed name.
     pub fn name_partial(path: &BStr) -> Result<&BStr, name::Error> {
-        if well_formed(path.as_bytes()) {
-            Ok(path)
-        } else {
-            Err(name::Error::Malformed)
-        }
+        if well_formed(path.as_bytes()) { Ok(path) } else { Err(name::Error::Malformed) }
     }
 }
 
