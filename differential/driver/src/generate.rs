@@ -1,5 +1,6 @@
 //! Generated snapshots that can stand on disc, and questions about them.
 use crate::{
+    contents::{good_content, id, object, odd_content, symbolic},
     names, oracle,
     rng::Rng,
     snapshot::{Bytes, Case, Entry, Group, LIMIT, Loose, Packed, Question, Snapshot, can_stand, stand_together},
@@ -34,60 +35,6 @@ pub fn case(rng: &mut Rng, style: Style) -> Case {
     let mut m = Maker { rng, style, s: Snapshot::default(), expansion, asked: Vec::new() };
     m.snapshot();
     m.case(namespace)
-}
-
-pub fn id(rng: &mut Rng) -> Bytes {
-    let digits = if rng.percent(80) { b"0123456789abcdef" } else { b"0123456789aBCDeF" };
-    (0..40).map(|_| digits[rng.below(16)]).collect()
-}
-
-/// What a file may hold besides a target of the snapshot.
-pub fn odd_content(rng: &mut Rng) -> Bytes {
-    let id = id(rng);
-    match rng.below(26) {
-        0 => b"".to_vec(),
-        1 => b"ref:HEAD".to_vec(),
-        2 => b"ref: ".to_vec(),
-        3 => b"ref:   \n".to_vec(),
-        4 => id[..39].to_vec(),
-        5 => [&id[..], b"a"].concat(),
-        6 => [&id[..], b"z"].concat(),
-        7 => [&id[..39], b"g"].concat(),
-        8..=10 => b"ref: refs/heads/.invalid\n".to_vec(),
-        11 => b"ref: refs/heads/.invalid/a".to_vec(),
-        12 => b"ref: main".to_vec(),
-        13 => b"ref: refs/heads/a.lock".to_vec(),
-        14 => b"ref: refs/heads/a b".to_vec(),
-        15 => b"ref: HEAD ".to_vec(),
-        16 => b"ref: @".to_vec(),
-        17 => b"REF: HEAD".to_vec(),
-        18 => b"ref:\tHEAD".to_vec(),
-        19 => b" ref: HEAD".to_vec(),
-        20 => [b"ref: ", &names::bytes(rng)[..]].concat(),
-        21 => names::bytes(rng),
-        22 => [b"\n", &id[..]].concat(),
-        23 => (0..rng.below(LIMIT + 1)).map(|_| rng.below(256) as u8).collect(),
-        24 => [b"ref: refs/heads/", &[b'y'].repeat(230)[..]].concat(),
-        _ => [&id[..], b"\0"].concat(),
-    }
-}
-
-fn symbolic(rng: &mut Rng, target: &[u8], odd: usize) -> Bytes {
-    if !rng.percent(odd) {
-        return [b"ref: ", target, b"\n"].concat();
-    }
-    let before = rng.pick(&["ref: ", "ref: ", "ref: ", "ref:  ", "ref:    "]);
-    let after = rng.pick(&["\n", "\n", "\n", "", "\r\n", "\0", "\0x", "\rx", "\nx y\n", " \n"]);
-    let after = if after == " \n" && rng.percent(80) { "\n" } else { after };
-    [before.as_bytes(), target, after.as_bytes()].concat()
-}
-
-fn object(rng: &mut Rng, odd: usize) -> Bytes {
-    if !rng.percent(odd) {
-        return [&id(rng)[..], b"\n"].concat();
-    }
-    let after = rng.pick(&["\n", "\n", "\n", "", "\r\n", "\0", "z", " x", "\nx"]);
-    [&id(rng)[..], after.as_bytes()].concat()
 }
 
 impl Maker<'_> {
@@ -263,7 +210,7 @@ impl Maker<'_> {
         for _ in 0..self.rng.below(3) {
             let name = match self.rng.below(8) {
                 0 => b"refs".to_vec(),
-                _ => [rng_dir(self.rng), names::part(self.rng)].concat(),
+                _ => [locked_dir(self.rng), names::part(self.rng)].concat(),
             };
             // The files of a nested worktree stand in common too, where no walk below refs/ meets them.
             let in_worktree = self.s.nested.is_none() && self.rng.percent(50);
@@ -309,10 +256,8 @@ impl Maker<'_> {
             groups.push(Group { namespace: namespace.clone(), questions });
         }
         let mut questions = vec![Question::Fit, Question::List];
-        if fit {
-            let few = if namespace.is_some() { self.style.names / 4 } else { self.style.names };
-            self.searches(&mut questions, few);
-        }
+        let few = if !fit || namespace.is_some() { self.style.names / 4 } else { self.style.names };
+        self.searches(&mut questions, few);
         self.on_names(&mut questions);
         groups.push(Group { namespace: None, questions });
         Case { snapshot: self.s.clone(), groups }
@@ -344,22 +289,14 @@ impl Maker<'_> {
             questions.push(full_name(rng));
             questions.push(Question::Expand(if rng.percent(50) { names::namespace(rng) } else { names::bytes(rng) }));
             questions.push(strip(rng));
-            let content = if rng.percent(60) { odd_content(rng) } else { chosen_content(rng) };
+            let content = if rng.percent(60) { odd_content(rng) } else { good_content(rng) };
             questions.push(Question::Decode(content[..content.len().min(LIMIT)].to_vec()));
         }
     }
 }
 
-fn rng_dir(rng: &mut Rng) -> &'static [u8] {
+fn locked_dir(rng: &mut Rng) -> &'static [u8] {
     rng.pick(&["refs/", "refs/heads/", "refs/bisect/", "refs/tags/", "refs/heads/a/"]).as_bytes()
-}
-
-fn chosen_content(rng: &mut Rng) -> Bytes {
-    if rng.percent(40) {
-        return object(rng, 100);
-    }
-    let target = names::any(rng);
-    symbolic(rng, &target, 100)
 }
 
 fn full_name(rng: &mut Rng) -> Question {

@@ -1,6 +1,7 @@
 //! Compares `replay` with the supplied files of gix-ref 0.69.1 on generated snapshots.
 mod blocks;
 mod compare;
+mod contents;
 mod corners;
 mod generate;
 mod git;

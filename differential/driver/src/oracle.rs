@@ -52,6 +52,7 @@ pub struct Oracle {
     worktree: PathBuf,
     common: Option<PathBuf>,
     namespace: Option<Bytes>,
+    /// Empty where it is not asked about.
     fitness: String,
     limit: usize,
 }
@@ -110,7 +111,7 @@ impl Oracle {
         }
     }
 
-    /// Rows 3 to 5 of the table, then the store.
+    /// Rows 3 to 8 of the table, then the store.
     fn on_store(&self, name: Option<&Bytes>, ask: impl FnOnce(&file::Store) -> Vec<String>) -> Option<Answer> {
         let long = |n: Option<&Bytes>| n.is_some_and(|n| n.len() > self.limit);
         if long(name) || long(self.namespace.as_ref()) {
@@ -123,6 +124,10 @@ impl Oracle {
                 Ok(ns) if ns.as_bstr().len() > self.limit && name.is_none_or(|n| is_partial(n)) => return limits(5),
                 Ok(ns) => store.namespace = Some(ns),
             }
+        }
+        let unfit = !self.fitness.is_empty() && self.fitness != "fit";
+        if unfit && name.is_some_and(|n| is_partial(n)) {
+            return document(self.fitness.clone());
         }
         Some(Answer::new(By::Rust, ask(&store)))
     }

@@ -37,7 +37,7 @@ fn refusals(of: &[u64]) -> String {
 fn print_apart(c: &Counts) {
     println!("\nsteps of listings compared: {}", c.steps);
     println!("demand 2's exception met, and compared all the same: {}", c.into_peeled);
-    println!("besides, by document 01 alone (3, 5 and fitness): {}", c.document);
+    println!("besides, by document 01 alone (3, 5, 7, 8 and fitness): {}", c.document);
     println!("besides, by the stand-in for gix-validate (well formed, complete): {}", c.stand_in);
     println!("left out, where the Rust does not tell 3 from 4: {}", c.left_out);
 }
