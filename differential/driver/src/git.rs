@@ -11,7 +11,7 @@ use std::{
 };
 
 use crate::{
-    layout::Layout,
+    layout::{Layout, packed_refs},
     snapshot::{Bytes, Entry, Loose, Packed, Snapshot},
 };
 
@@ -57,6 +57,29 @@ impl Git {
     pub fn version(&self) -> io::Result<String> {
         let out = expect(self.command(None).arg("version"))?;
         Ok(String::from_utf8_lossy(&out.stdout).trim().to_owned())
+    }
+
+    /// Whether git writes packed-refs as the layouts do: some references and a tag's peeled id, packed by git.
+    pub fn packs_alike(&self) -> io::Result<bool> {
+        let repository = self.home.join("template");
+        let blob = &self.ids[0];
+        let tag = self.home.join("tag");
+        let text = b"\ntype blob\ntag v\ntagger a <a> 0 +0000\n\nv\n";
+        fs::write(&tag, [b"object ", &blob[..], text].concat())?;
+        let git = || self.command(Some(&repository));
+        let out = expect(git().args(["hash-object", "-t", "tag", "-w"]).arg(tag))?;
+        let tag = out.stdout.trim_ascii().to_vec();
+        let refs = [("refs/a/b", blob), ("refs/tags/v", &tag), ("refs/tags/w", blob)];
+        for (name, id) in refs {
+            expect(git().args(["update-ref", name]).arg(OsStr::from_bytes(id)))?;
+        }
+        expect(git().args(["pack-refs", "--all"]))?;
+        let record = |(name, id): (&str, &Bytes)| Packed::Record {
+            name: name.into(),
+            id: id.clone(),
+            peeled: (*id == tag).then(|| blob.clone()),
+        };
+        Ok(fs::read(repository.join("packed-refs"))? == packed_refs(&refs.map(record)))
     }
 
     pub fn well_formed(&self, name: &[u8]) -> io::Result<bool> {

@@ -42,7 +42,10 @@ impl Counts {
 pub fn run(scratch: &Path, replay: &Replay, seed: u64, count: u64) -> io::Result<bool> {
     let git = Git::new(scratch)?;
     println!("{}, seed {seed}", git.version()?);
-    let failures = smallest(&scratch.join("smallest"), &git, replay)?;
+    let mut failures = smallest(&scratch.join("smallest"), &git, replay)?;
+    if !git.packs_alike()? {
+        failures.push("packed-refs: git writes it otherwise than it is laid out here".into());
+    }
     let mut counts = Counts { failures, ..Counts::default() };
     let mut first = 0;
     while counts.total() < count && counts.failures.is_empty() {
