@@ -3,6 +3,7 @@ use std::{io, path::Path};
 
 use crate::{
     blocks,
+    features::FEATURES,
     layout::Layout,
     oracle::{self, Answer, By, Oracle},
     replay::Replay,
@@ -51,6 +52,8 @@ pub struct Counts {
     /// Snapshots, and how many of them are fit for search.
     pub snapshots: u64,
     pub fit: u64,
+    /// Snapshots that have each of `FEATURES`.
+    pub features: [u64; FEATURES.len()],
     /// Answers of the Rust that do not tell which number is due.
     pub left_out: u64,
 }
@@ -81,6 +84,7 @@ impl Counts {
         self.stand_in += o.stand_in;
         self.snapshots += o.snapshots;
         self.fit += o.fit;
+        self.features.iter_mut().zip(o.features).for_each(|(mine, more)| *mine += more);
         self.left_out += o.left_out;
     }
 
@@ -173,6 +177,9 @@ pub fn compare<'a>(
     }
     counts.snapshots += 1;
     counts.fit += u64::from(s.fit());
+    for (count, (_, has)) in counts.features.iter_mut().zip(FEATURES) {
+        *count += u64::from(has(s));
+    }
     assert_eq!(lines.next(), Some("?"), "the answers are out of step: {s:?}");
     Ok(())
 }

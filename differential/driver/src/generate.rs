@@ -155,7 +155,7 @@ impl Maker<'_> {
     fn any_held(&mut self) -> Option<Bytes> {
         let loose = self.s.worktree.iter().chain(self.s.common.iter().flatten());
         let all: Vec<&Bytes> =
-            loose.map(|e| &e.name).chain(self.s.packed.iter().flatten().filter_map(name_of)).collect();
+            loose.map(|e| &e.name).chain(self.s.packed.iter().flatten().filter_map(Packed::name)).collect();
         (!all.is_empty()).then(|| all[self.rng.below(all.len())].clone())
     }
 
@@ -200,8 +200,8 @@ impl Maker<'_> {
 
     fn sort_packed(&mut self) {
         if let Some(packed) = &mut self.s.packed {
-            packed.sort_by(|a, b| name_of(a).cmp(&name_of(b)));
-            packed.dedup_by(|a, b| name_of(a) == name_of(b));
+            packed.sort_by(|a, b| a.name().cmp(&b.name()));
+            packed.dedup_by(|a, b| a.name() == b.name());
         }
     }
 
@@ -314,13 +314,6 @@ fn strip(rng: &mut Rng) -> Question {
     let expansion = oracle::expansion(&namespace).unwrap_or_default();
     let name = names::bytes(rng);
     Question::Strip { name: names::inside(rng, &expansion, name), namespace }
-}
-
-fn name_of(line: &Packed) -> Option<&Bytes> {
-    match line {
-        Packed::Record { name, .. } => Some(name),
-        Packed::Junk(_) => None,
-    }
 }
 
 /// Where search reads the loose file of a name: in the worktree or not, and under which path. A guess that only guides

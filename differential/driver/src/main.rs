@@ -3,6 +3,7 @@ mod blocks;
 mod compare;
 mod contents;
 mod corners;
+mod features;
 mod generate;
 mod git;
 mod gititems;

@@ -1,7 +1,7 @@
 //! What a run has reached.
 use std::time::Duration;
 
-use crate::{compare::Counts, snapshot::Question};
+use crate::{compare::Counts, features::FEATURES, snapshot::Question};
 
 /// A run of this many comparisons must reach each of 9 to 15 this often.
 const FULL: u64 = 1_000_000;
@@ -19,6 +19,7 @@ pub fn print(c: &Counts, seed: u64, count: u64, took: Duration) -> bool {
     let sums = [c.total(), c.in_namespace.iter().sum(), c.absent.iter().sum()];
     let rate = format!("{:.0} comparisons a second", c.total() as f64 / seconds);
     row("all", sums.map(|n| n.to_string()), &rate);
+    print_features(c);
     print_apart(c);
     covered(c, count)
 }
@@ -33,9 +34,17 @@ fn refusals(of: &[u64]) -> String {
     some.map(|(number, n)| format!("{number}: {n}")).collect::<Vec<_>>().join(", ")
 }
 
+fn print_features(c: &Counts) {
+    println!("\nsnapshots with");
+    for ((name, _), n) in FEATURES.iter().zip(c.features) {
+        println!("  {name:48} {n:>7}");
+    }
+    println!();
+}
+
 /// What the table does not say.
 fn print_apart(c: &Counts) {
-    println!("\nsteps of listings compared: {}", c.steps);
+    println!("steps of listings compared: {}", c.steps);
     println!("demand 2's exception met, and compared all the same: {}", c.into_peeled);
     println!("besides, by document 01 alone (3, 5, 7, 8 and fitness): {}", c.document);
     println!("besides, by the stand-in for gix-validate (well formed, complete): {}", c.stand_in);

@@ -28,6 +28,16 @@ pub enum Packed {
     Junk(Bytes),
 }
 
+impl Packed {
+    /// The name of a record.
+    pub fn name(&self) -> Option<&Bytes> {
+        match self {
+            Packed::Record { name, .. } => Some(name),
+            Packed::Junk(_) => None,
+        }
+    }
+}
+
 #[derive(Clone, Debug, Default, PartialEq)]
 pub struct Snapshot {
     pub worktree: Vec<Entry>,
@@ -43,16 +53,9 @@ impl Snapshot {
     /// Neither walk errors nor packed errors, and packed names rise.
     pub fn fit(&self) -> bool {
         let loose = self.worktree.iter().chain(self.common.iter().flatten());
-        let records: Option<Vec<&Bytes>> = self.packed.iter().flatten().map(record_name).collect();
+        let records: Option<Vec<&Bytes>> = self.packed.iter().flatten().map(Packed::name).collect();
         loose.into_iter().all(|e| e.what != Loose::Locked)
             && records.is_some_and(|names| names.windows(2).all(|w| w[0] < w[1]))
-    }
-}
-
-fn record_name(line: &Packed) -> Option<&Bytes> {
-    match line {
-        Packed::Record { name, .. } => Some(name),
-        Packed::Junk(_) => None,
     }
 }
 
