@@ -120,6 +120,9 @@ const CORNERS: &[Corner] = &[
     at(&["w:refs/heads/a=#1", "c:"], "find a", "absent"),
     at(&["p:refs/heads/m=#1"], "find main-worktree/refs/heads/m", "found `refs/heads/m` object #1 ~"),
     in_n(&["w:Nrefs/heads/m=#1"], "find Nrefs/heads/m", "absent"),
+    // The loose path is longer than a name may be, the packed one is not.
+    in_n(&["p:Nrefs/bisect/y*215=#1"], "find worktrees/w/refs/bisect/y*215", "found `refs/bisect/y*215` object #1 ~"),
+    in_n(&["w:Nworktrees/w=#2", "p:Nrefs/bisect/y*215=#1"], "find worktrees/w/refs/bisect/y*215", "absent"),
     // Intended differences.
     differs(&[], None, "find y*251", "absent", "refused 3"),
     differs(&[], Some("y*235"), "list", "", "refused 5"),

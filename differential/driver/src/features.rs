@@ -5,7 +5,7 @@ use crate::snapshot::{Bytes, Entry, Loose, Packed, Snapshot, is_directory_of};
 
 type Feature = (&'static str, fn(&Snapshot) -> bool);
 
-pub const FEATURES: [Feature; 16] = [
+pub const FEATURES: [Feature; 18] = [
     ("a common directory", |s| s.common.is_some()),
     ("the worktree's directory inside the common one", |s| s.nested.is_some()),
     ("no packed-refs", |s| s.packed.is_none()),
@@ -28,6 +28,10 @@ pub const FEATURES: [Feature; 16] = [
     ("a private name in worktree", |s| s.worktree.iter().any(|e| is_private(&e.name))),
     ("a private name in common", |s| s.common.iter().flatten().any(|e| is_private(&e.name))),
     ("a private name packed", |s| packed(s).filter_map(Packed::name).any(|n| is_private(n))),
+    ("a name of 240 bytes or more", |s| {
+        loose(s).map(|e| &e.name).chain(packed(s).filter_map(Packed::name)).any(|n| n.len() >= 240)
+    }),
+    ("more than 20 packed records", |s| packed(s).count() > 20),
     ("a peeled id", |s| packed(s).any(|line| matches!(line, Packed::Record { peeled: Some(_), .. }))),
 ];
 

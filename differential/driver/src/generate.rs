@@ -9,7 +9,7 @@ use crate::{
 /// What cases are like.
 #[derive(Clone, Copy)]
 pub struct Style {
-    /// Blocks a region, at most.
+    /// Blocks a region, at most; twice as many where two are joined, and of packed records.
     pub blocks: usize,
     /// Names asked for.
     pub names: usize,
@@ -54,7 +54,8 @@ impl Maker<'_> {
         for _ in 0..self.rng.below(self.style.blocks) {
             self.loose_file();
         }
-        for _ in 0..self.rng.below(self.style.blocks) {
+        let records = if self.rng.percent(20) { 2 * self.style.blocks } else { self.style.blocks };
+        for _ in 0..self.rng.below(records) {
             self.packed_record();
         }
         for _ in 0..self.rng.below(3) {
@@ -190,7 +191,7 @@ impl Maker<'_> {
         let peeled = self.rng.percent(35).then(|| id(self.rng));
         let id = id(self.rng);
         if let Some(packed) = &mut self.s.packed
-            && packed.len() < self.style.blocks
+            && packed.len() < 2 * self.style.blocks
             && name.len() <= LIMIT
             && gix_validate::reference::complete(&name)
         {

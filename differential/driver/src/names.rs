@@ -69,9 +69,6 @@ fn parts(rng: &mut Rng) -> Bytes {
         name.push(b'/');
         name.extend(part(rng));
     }
-    if rng.percent(2) {
-        name.extend([b'y'].repeat(200 + rng.below(60)));
-    }
     name
 }
 
@@ -86,7 +83,12 @@ pub fn any(rng: &mut Rng) -> Bytes {
             dir => dir,
         },
     };
-    [dir.as_bytes(), &parts(rng)].concat()
+    let mut name = [dir.as_bytes(), &parts(rng)].concat();
+    if rng.percent(3) {
+        // Near the limit, alone or with a namespace or a worktree in front.
+        name.resize(200 + rng.below(LIMIT - 195), b'y');
+    }
+    name
 }
 
 /// A name that a loose region may hold, malformed ones among them.

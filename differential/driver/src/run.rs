@@ -15,6 +15,8 @@ use crate::{
 
 const CASES_A_BATCH: usize = 100;
 const STYLE: Style = Style { blocks: 12, names: 16, namespaces: 45, odd: 100 };
+/// Every eighth batch. `replay` takes 40 blocks a region.
+const LARGE: Style = Style { blocks: 18, names: 24, ..STYLE };
 /// Differences that are made small and shown.
 const SHOWN: usize = 3;
 
@@ -29,7 +31,8 @@ pub fn run(scratch: &Path, replay: &Replay, seed: u64, count: u64) -> io::Result
     let mut first = 0;
     while counts.total() < count && differences.is_empty() {
         let done = parallel::round(first, |thread, number| {
-            batch(&scratch.join(thread.to_string()), replay, &mut Rng::new(seed, number))
+            let style = if number % 8 == 7 { LARGE } else { STYLE };
+            batch(&scratch.join(thread.to_string()), replay, &mut Rng::new(seed, number), style)
         })?;
         for (more, difference) in done {
             counts.add(&more);
@@ -47,8 +50,8 @@ pub fn run(scratch: &Path, replay: &Replay, seed: u64, count: u64) -> io::Result
 }
 
 /// Ask both about all cases of a batch; the comparison ends with the first difference.
-fn batch(dir: &Path, replay: &Replay, rng: &mut Rng) -> io::Result<(Counts, Option<Difference>)> {
-    let cases: Vec<Case> = (0..CASES_A_BATCH).map(|_| generate::case(rng, STYLE)).collect();
+fn batch(dir: &Path, replay: &Replay, rng: &mut Rng, style: Style) -> io::Result<(Counts, Option<Difference>)> {
+    let cases: Vec<Case> = (0..CASES_A_BATCH).map(|_| generate::case(rng, style)).collect();
     let mut counts = Counts::default();
     let asked = cases.iter().map(|c| compare::ask_rust(dir, c, &mut counts)).collect::<io::Result<Vec<_>>>()?;
     let questions: String = cases.iter().zip(&asked).map(|(c, a)| compare::questions(&c.snapshot, a)).collect();
