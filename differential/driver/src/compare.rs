@@ -165,23 +165,30 @@ pub fn compare<'a>(
     for a in asked {
         let answer = take(&a.question, a.expected.lines.len(), lines);
         if answer != a.expected.lines {
-            return Err(Box::new(Difference {
-                snapshot: s.clone(),
-                namespace: a.namespace.clone(),
-                question: a.question.clone(),
-                rust: a.expected.lines.clone(),
-                replay: answer,
-            }));
+            return Err(difference(s, a, answer));
         }
         counts.count(a);
+    }
+    let mark = lines.next();
+    if let Some(last) = asked.last().filter(|_| mark != Some("?")) {
+        return Err(difference(s, last, vec![format!("after the answer: {mark:?}")]));
     }
     counts.snapshots += 1;
     counts.fit += u64::from(s.fit());
     for (count, (_, has)) in counts.features.iter_mut().zip(FEATURES) {
         *count += u64::from(has(s));
     }
-    assert_eq!(lines.next(), Some("?"), "the answers are out of step: {s:?}");
     Ok(())
+}
+
+fn difference(s: &Snapshot, a: &Asked, replay: Vec<String>) -> Box<Difference> {
+    Box::new(Difference {
+        snapshot: s.clone(),
+        namespace: a.namespace.clone(),
+        question: a.question.clone(),
+        rust: a.expected.lines.clone(),
+        replay,
+    })
 }
 
 /// An answer's lines; positions, which the Rust does not have, are left out.
