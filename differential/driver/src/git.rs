@@ -100,6 +100,28 @@ impl Git {
         Ok(out.stdout.split(|b| *b == b'\n').filter(|l| !l.is_empty()).map(line).collect())
     }
 
+    /// Names and ids that git offers under a namespace, not expanded; peeled ids left out.
+    pub fn offered(&self, git_dir: &Path, namespace: &[u8]) -> io::Result<Vec<(Bytes, Bytes)>> {
+        let mut c = self.command(None);
+        c.env("GIT_NAMESPACE", OsStr::from_bytes(namespace)).args(["upload-pack", "--advertise-refs"]).arg(git_dir);
+        let out = expect(&mut c)?.stdout;
+        let mut offered = Vec::new();
+        let mut rest = &out[..];
+        while let Some((digits, after)) = rest.split_at_checked(4) {
+            let length = std::str::from_utf8(digits).ok().and_then(|d| usize::from_str_radix(d, 16).ok());
+            let line = length.and_then(|n| after.get(..n.checked_sub(4)?));
+            let Some(line) = line else { break };
+            rest = &after[line.len()..];
+            // The first line has capabilities after a NUL, the others end there.
+            let line = line.strip_suffix(b"\n").unwrap_or(line);
+            let line = line.split(|b| *b == 0).next().unwrap_or(line);
+            if line.len() > 41 && !line.ends_with(b"^{}") {
+                offered.push((line[41..].to_vec(), line[..40].to_vec()));
+            }
+        }
+        Ok(offered)
+    }
+
     pub fn rev_parse(&self, git_dir: &Path, name: &[u8]) -> io::Result<Option<Bytes>> {
         let mut c = self.command(Some(git_dir));
         let out = c.args(["rev-parse", "--verify", "--quiet"]).arg(OsStr::from_bytes(name)).output()?;

@@ -3,10 +3,11 @@ use std::{collections::BTreeMap, io};
 
 use crate::{
     git::Git,
-    gitrules::{CHECK, DANGLING, Item, LIST, NO_ID, SEARCH},
+    gitrules::{CHECK, DANGLING, Item, LIST, NO_ID, OFFER, SEARCH},
     layout::Layout,
+    oracle,
     replay::Replay,
-    snapshot::{Bytes, Case, Question, Snapshot},
+    snapshot::{Bytes, Case, Entry, LIMIT, Loose, Question, Snapshot},
     text::{self, hex},
 };
 
@@ -19,7 +20,7 @@ pub fn names_items(git: &Git, replay: &Replay, names: Vec<Bytes>) -> io::Result<
     let mut items = Vec::new();
     for (name, ours) in names.into_iter().zip(answers.lines()) {
         let git = if git.well_formed(&name)? { "yes" } else { "no" };
-        items.push(Item { question: CHECK, name, ours: ours.into(), git: git.into() });
+        items.push(Item::new(CHECK, name, ours.into(), git.into()));
     }
     Ok(items)
 }
@@ -56,11 +57,11 @@ pub fn search_items(
     let mut items = Vec::new();
     for ((name, ours), git) in names.iter().zip(answers.lines()).zip(theirs) {
         let ours = id_of(ours).unwrap_or(NO_ID).to_owned();
-        items.push(Item { question: SEARCH, name: name.clone(), ours, git: word(git) });
+        items.push(Item::new(SEARCH, name.clone(), ours, word(git)));
     }
     let git = word(git.rev_parse(&layout.worktree, &names[0])?);
     let ours = items[0].ours.clone();
-    items.push(Item { question: "rev-parse", name: names[0].clone(), ours, git });
+    items.push(Item::new("rev-parse", names[0].clone(), ours, git));
     Ok(items)
 }
 
@@ -74,12 +75,9 @@ pub fn list_items(git: &Git, replay: &Replay, layout: &Layout, s: &Snapshot) -> 
     let ours = our_list(replay, s)?;
     let in_both = |n: &Bytes| ours.iter().any(|(o, _)| o == n) && theirs.iter().any(|(t, ..)| t == n);
     let order = |names: Vec<&Bytes>| names.into_iter().filter(|n| in_both(n)).map(|n| hex(n) + " ").collect();
-    let mut items = vec![Item {
-        question: "order of the list",
-        name: Vec::new(),
-        ours: order(ours.iter().map(|(n, _)| n).collect()),
-        git: order(theirs.iter().map(|(n, ..)| n).collect()),
-    }];
+    let ours_in_order = order(ours.iter().map(|(n, _)| n).collect());
+    let theirs_in_order = order(theirs.iter().map(|(n, ..)| n).collect());
+    let mut items = vec![Item::new("order of the list", Vec::new(), ours_in_order, theirs_in_order)];
     let mut all: BTreeMap<&Bytes, [String; 2]> = BTreeMap::new();
     for (name, answer) in &ours {
         all.entry(name).or_default()[0].clone_from(answer);
@@ -87,8 +85,52 @@ pub fn list_items(git: &Git, replay: &Replay, layout: &Layout, s: &Snapshot) -> 
     for (name, id, last) in &theirs {
         all.entry(name).or_default()[1] = format!("{} {}", id.escape_ascii(), hex(last));
     }
-    items.extend(all.into_iter().map(|(name, [ours, git])| Item { question: LIST, name: name.clone(), ours, git }));
+    items.extend(all.into_iter().map(|(name, [ours, git])| Item::new(LIST, name.clone(), ours, git)));
     Ok(items)
+}
+
+/// What a namespace holds, as git offers it to others: names whose files, if any, hold a plain id.
+pub fn namespace_items(
+    git: &Git,
+    replay: &Replay,
+    layout: &Layout,
+    s: &Snapshot,
+    namespace: &Bytes,
+) -> io::Result<Vec<Item>> {
+    let Some(expansion) = oracle::expansion(namespace).filter(|e| e.len() <= LIMIT) else {
+        return Ok(Vec::new());
+    };
+    let set = text::setters(s) + &text::namespace(Some(namespace));
+    let listed = replay.ask(format!("{set}list {STEPS}\n"))?;
+    let mut all: BTreeMap<Bytes, [String; 2]> = BTreeMap::new();
+    for l in listed.lines().map(|l| l.split(' ').collect::<Vec<_>>()).filter(|l| l[0] == "ref" && l[2] == "object") {
+        all.entry(unhex(l[1])).or_default()[0] = l[3].into();
+    }
+    for (name, id) in git.offered(&layout.worktree, namespace)? {
+        all.entry(name).or_default()[1] = id.escape_ascii().to_string();
+    }
+    let whole = |name: &Bytes| [&expansion[..], name].concat();
+    let plain = |name: &Bytes| files(s).filter(|e| e.name == whole(name)).all(|e| is_plain_id(&e.what));
+    let items = all.into_iter().filter(|(name, _)| plain(name));
+    let item = |(name, [ours, git]): (Bytes, [String; 2])| Item {
+        expansion: expansion.len(),
+        ..Item::new(OFFER, whole(&name), ours, git)
+    };
+    Ok(items.map(item).collect())
+}
+
+fn files(s: &Snapshot) -> impl Iterator<Item = &Entry> {
+    s.worktree.iter().chain(s.common.iter().flatten())
+}
+
+fn is_plain_id(what: &Loose) -> bool {
+    match what {
+        Loose::File(content) => {
+            let line = content.strip_suffix(b"\n").unwrap_or(content);
+            line.len() == 40 && line.iter().all(u8::is_ascii_hexdigit)
+        }
+        _ => false,
+    }
 }
 
 /// Names and what git would print of them, refused entries left out.

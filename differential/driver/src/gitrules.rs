@@ -10,14 +10,27 @@ use crate::{
 /// A name's two answers.
 pub struct Item {
     pub question: &'static str,
+    /// Whole, with the namespace's expansion in front, whose length follows.
     pub name: Bytes,
+    pub expansion: usize,
     pub ours: String,
     pub git: String,
+}
+
+impl Item {
+    pub fn new(question: &'static str, name: Bytes, ours: String, git: String) -> Self {
+        Item { question, name, expansion: 0, ours, git }
+    }
+
+    fn in_namespace(&self) -> Option<&[u8]> {
+        (self.expansion > 0).then(|| &self.name[self.expansion..])
+    }
 }
 
 pub const CHECK: &str = "check-ref-format";
 pub const LIST: &str = "for-each-ref";
 pub const SEARCH: &str = "cat-file";
+pub const OFFER: &str = "upload-pack";
 /// What a listing shows here while git leaves it out.
 pub const DANGLING: &str = "symbolic, leads to no id";
 
@@ -31,7 +44,7 @@ pub struct Rule {
 }
 
 /// In the order in which they are tried.
-pub const RULES: [Rule; 10] = [
+pub const RULES: [Rule; 12] = [
     Rule {
         name: "leading dash",
         text: "check-ref-format takes a name that begins with a dash for an option",
@@ -44,13 +57,27 @@ pub const RULES: [Rule; 10] = [
     },
     Rule {
         name: "shared in worktree",
-        text: "for-each-ref does not read shared names in a linked worktree's own directory",
-        holds: |w, i| i.question == LIST && w.is_shared_in_worktree(&i.name),
+        text: "for-each-ref and upload-pack do not read shared names in a linked worktree's own directory",
+        holds: |w, i| (i.question == LIST || i.question == OFFER) && w.is_shared_in_worktree(&i.name),
     },
     Rule {
         name: "packed HEAD",
         text: "for-each-ref leaves out a packed HEAD",
         holds: |_, i| i.question == LIST && i.name == b"HEAD" && i.git.is_empty(),
+    },
+    Rule {
+        name: "namespace",
+        text: "under a namespace upload-pack offers HEAD and names under refs/ only",
+        holds: |_, i| {
+            i.question == OFFER
+                && i.git.is_empty()
+                && i.in_namespace().is_some_and(|n| n != b"HEAD" && !n.starts_with(b"refs/"))
+        },
+    },
+    Rule {
+        name: "malformed",
+        text: "upload-pack offers a malformed file name, with an id of zeros",
+        holds: |_, i| i.question == OFFER && !well_formed(&i.name) && i.ours.is_empty() && i.git == "0".repeat(40),
     },
     Rule {
         name: "contents",
@@ -96,7 +123,7 @@ impl<'a> Way<'a> {
     pub fn new(s: &'a Snapshot, item: &Item) -> Self {
         let mut way = Way { s, sought: Vec::new(), files: Vec::new() };
         match item.question {
-            CHECK => {}
+            CHECK | OFFER => {}
             LIST => way.take_up(std::slice::from_ref(&item.name)),
             _ => way.sought.push(item.name.clone()),
         }

@@ -5,8 +5,8 @@ use crate::{
     corners,
     generate::{self, Style},
     git::{self, Git},
-    gititems::{full_names, list_items, names_items, search_items},
-    gitrules::{CHECK, Item, LIST, RULES, SEARCH, Way},
+    gititems::{full_names, list_items, names_items, namespace_items, search_items},
+    gitrules::{CHECK, Item, LIST, OFFER, RULES, SEARCH, Way},
     layout::Layout,
     names,
     parallel::{self, BATCHES_A_ROUND},
@@ -17,7 +17,7 @@ use crate::{
 };
 
 const CASES_A_BATCH: usize = 20;
-const STYLE: Style = Style { blocks: 12, names: 16, namespaces: 0, odd: 10 };
+const STYLE: Style = Style { blocks: 12, names: 16, namespaces: 30, odd: 10 };
 
 #[derive(Default)]
 struct Counts {
@@ -78,6 +78,9 @@ fn one(dir: &Path, git: &Git, replay: &Replay, case: &Case, rng: &mut Rng, count
     let mut items = names_items(git, replay, names)?;
     items.extend(search_items(git, replay, &layout, s, &full_names(case))?);
     items.extend(list_items(git, replay, &layout, s)?);
+    for namespace in case.groups.iter().filter_map(|g| g.namespace.as_ref()) {
+        items.extend(namespace_items(git, replay, &layout, s, namespace)?);
+    }
     for item in items {
         if item.ours == item.git {
             *counts.agreed.entry(item.question).or_default() += 1;
@@ -113,6 +116,8 @@ const SMALLEST: [(&str, &[&str], &str, &str); RULES.len()] = [
     ("packed private", &["p:refs/worktree/a=#1"], SEARCH, "refs/worktree/a"),
     ("as it stands", &["w:refs/a=ref: tags/b", "w:tags/b=#1"], SEARCH, "refs/a"),
     ("candidates", &["w:tags/refs/a=#1"], SEARCH, "refs/a"),
+    ("malformed", &["w:Nrefs/a b=#1"], OFFER, "refs/namespaces/n/refs/a b"),
+    ("namespace", &["w:Ntags/a=#1"], OFFER, "refs/namespaces/n/tags/a"),
     ("seeks on", &["w:HEAD=ref: refs/a", "w:refs/tags/HEAD=#1"], SEARCH, "HEAD"),
 ];
 
@@ -128,6 +133,7 @@ fn smallest(dir: &Path, git: &Git, replay: &Replay) -> io::Result<Vec<String>> {
         let items = match question {
             CHECK => names_items(git, replay, vec![name.clone()])?,
             LIST => list_items(git, replay, &layout, &s)?,
+            OFFER => namespace_items(git, replay, &layout, &s, &b"n".to_vec())?,
             _ => search_items(git, replay, &layout, &s, slice::from_ref(&name))?,
         };
         let item = items.iter().find(|i| i.question == question && i.name == name);
