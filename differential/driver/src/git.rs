@@ -5,7 +5,7 @@ use std::{
     ffi::OsStr,
     fs,
     io::{self, Write},
-    os::unix::ffi::OsStrExt,
+    os::unix::{ffi::OsStrExt, process::ExitStatusExt},
     path::{Path, PathBuf},
     process::{Command, Output, Stdio},
 };
@@ -100,11 +100,15 @@ impl Git {
         Ok(out.stdout.split(|b| *b == b'\n').filter(|l| !l.is_empty()).map(line).collect())
     }
 
-    /// Names and ids that git offers under a namespace, not expanded; peeled ids left out.
-    pub fn offered(&self, git_dir: &Path, namespace: &[u8]) -> io::Result<Vec<(Bytes, Bytes)>> {
+    /// Names and ids that git offers under a namespace, not expanded, peeled ids left out; none if git crashes.
+    pub fn offered(&self, git_dir: &Path, namespace: &[u8]) -> io::Result<Option<Vec<(Bytes, Bytes)>>> {
         let mut c = self.command(None);
         c.env("GIT_NAMESPACE", OsStr::from_bytes(namespace)).args(["upload-pack", "--advertise-refs"]).arg(git_dir);
-        let out = expect(&mut c)?.stdout;
+        let out = c.output()?;
+        if out.status.signal().is_some() {
+            return Ok(None);
+        }
+        let out = out.stdout;
         let mut offered = Vec::new();
         let mut rest = &out[..];
         while let Some((digits, after)) = rest.split_at_checked(4) {
@@ -119,7 +123,7 @@ impl Git {
                 offered.push((line[41..].to_vec(), line[..40].to_vec()));
             }
         }
-        Ok(offered)
+        Ok(Some(offered))
     }
 
     pub fn rev_parse(&self, git_dir: &Path, name: &[u8]) -> io::Result<Option<Bytes>> {
@@ -153,7 +157,8 @@ fn expect(c: &mut Command) -> io::Result<Output> {
     if out.status.success() {
         return Ok(out);
     }
-    Err(io::Error::other(format!("git failed: {}", String::from_utf8_lossy(&out.stderr))))
+    let text = String::from_utf8_lossy(&out.stderr);
+    Err(io::Error::other(format!("{c:?} ended with {}: {text}", out.status)))
 }
 
 /// Make a snapshot into one that git takes for a repository: objects that exist, a HEAD, a directory `refs`.

@@ -3,7 +3,7 @@ use std::{collections::BTreeMap, io};
 
 use crate::{
     git::Git,
-    gitrules::{CHECK, DANGLING, Item, LIST, NO_ID, OFFER, SEARCH},
+    gitrules::{CHECK, CRASHED, DANGLING, Item, LIST, NO_ID, OFFER, SEARCH},
     layout::Layout,
     oracle,
     replay::Replay,
@@ -106,7 +106,10 @@ pub fn namespace_items(
     for l in listed.lines().map(|l| l.split(' ').collect::<Vec<_>>()).filter(|l| l[0] == "ref" && l[2] == "object") {
         all.entry(unhex(l[1])).or_default()[0] = l[3].into();
     }
-    for (name, id) in git.offered(&layout.worktree, namespace)? {
+    let Some(offered) = git.offered(&layout.worktree, namespace)? else {
+        return Ok(vec![Item::new(OFFER, expansion, String::new(), CRASHED.into())]);
+    };
+    for (name, id) in offered {
         all.entry(name).or_default()[1] = id.escape_ascii().to_string();
     }
     let whole = |name: &Bytes| [&expansion[..], name].concat();

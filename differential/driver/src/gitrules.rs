@@ -34,6 +34,8 @@ pub const OFFER: &str = "upload-pack";
 /// What a listing shows here while git leaves it out.
 pub const DANGLING: &str = "symbolic, leads to no id";
 
+/// What upload-pack answers where it was ended by a signal.
+pub const CRASHED: &str = "crashed";
 /// What a search answers otherwise.
 pub const NO_ID: &str = "no id";
 
@@ -44,7 +46,7 @@ pub struct Rule {
 }
 
 /// In the order in which they are tried.
-pub const RULES: [Rule; 12] = [
+pub const RULES: [Rule; 13] = [
     Rule {
         name: "leading dash",
         text: "check-ref-format takes a name that begins with a dash for an option",
@@ -73,6 +75,11 @@ pub const RULES: [Rule; 12] = [
                 && i.git.is_empty()
                 && i.in_namespace().is_some_and(|n| n != b"HEAD" && !n.starts_with(b"refs/"))
         },
+    },
+    Rule {
+        name: "crash",
+        text: "upload-pack crashes where a namespace's HEAD leads out of it",
+        holds: |_, i| i.question == OFFER && i.git == CRASHED,
     },
     Rule {
         name: "malformed",

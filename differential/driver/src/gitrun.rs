@@ -116,6 +116,7 @@ const SMALLEST: [(&str, &[&str], &str, &str); RULES.len()] = [
     ("packed private", &["p:refs/worktree/a=#1"], SEARCH, "refs/worktree/a"),
     ("as it stands", &["w:refs/a=ref: tags/b", "w:tags/b=#1"], SEARCH, "refs/a"),
     ("candidates", &["w:tags/refs/a=#1"], SEARCH, "refs/a"),
+    ("crash", &["w:NHEAD=ref: refs/a", "w:refs/a=#1"], OFFER, "refs/namespaces/n/"),
     ("malformed", &["w:Nrefs/a b=#1"], OFFER, "refs/namespaces/n/refs/a b"),
     ("namespace", &["w:Ntags/a=#1"], OFFER, "refs/namespaces/n/tags/a"),
     ("seeks on", &["w:HEAD=ref: refs/a", "w:refs/tags/HEAD=#1"], SEARCH, "HEAD"),
