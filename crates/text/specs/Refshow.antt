@@ -1,8 +1,10 @@
 -- The program `refshow`: which commit does this reference name?
 use Prim.Native.Nat.{ℕ}
 use mathlib.Core.List.{List, [], _∷_, _++_}
+use mathlib.Core.Option.{none, some}
 use lib.ListN.{getD}
 use Rattle.names.specs.Bytes.{Bytes, bytes}
+use Rattle.names.specs.Check.{Check}
 use Rattle.blocks.specs.Block.{Region}
 use Rattle.refs.specs.Search.{Result, answers, turned-away, unfit}
 use Rattle.refs.specs.Follow.{Followed, not-there, reached, stopped, barred}
@@ -13,7 +15,7 @@ abbrev pub all-words : List Bytes
 all-words =
     []
     ∷ bytes "a region's size is not a multiple of 512 bytes; look at whether the file was copied whole"
-    ∷ bytes "a region has more than 4,096 blocks, or, for reflist, 40; look at how many references the repository has, and whether the file is a snapshot"
+    ∷ bytes "a region has more than 4,096 blocks, or 40 for the programs; look at how many references the repository has, and whether the file is a snapshot"
     ∷ bytes "a name or a namespace is longer than 250 bytes; look at what was typed or passed"
     ∷ bytes "a name or a namespace is not one that git allows; look at what was typed: two dots, a space, a slash at an end, `.lock`, and the like"
     ∷ bytes "a namespace grows to more than 250 bytes where it is written out; look at the namespace: a shorter one is needed"
@@ -54,3 +56,8 @@ abbrev pub show-text : Result Followed → Bytes
 show-text (answers f) = followed-text f
 show-text (turned-away k) = refused-line k
 show-text (unfit f) = refused-line (f .number) ++ (bytes "in " ++ region-word (f .region) ++ bytes ".blk, block " ++ decimal (f .block) ++ newline)
+
+-- the same of files that are too large to be read, from their sizes; nothing where the sizes are right
+abbrev pub size-show : Check → Bytes
+size-show none = []
+size-show (some k) = refused-line k

@@ -3,8 +3,11 @@ use crate::buffer::put;
 use crate::buffer::put_id;
 use crate::buffer::put_name;
 use crate::buffer::put_number;
+use crate::reflist::MOST_LISTED;
 use blocks::block::Region;
 use blocks::fitness;
+use blocks::fitness::Sizes;
+use blocks::fitness::sizes_within;
 use blocks::parse::Id;
 use names::name::Name;
 use names::name::refusal_number;
@@ -24,7 +27,8 @@ ghost use Rattle.blocks.specs.Means.{id-width, region-of, if-there, snapshot-of
 ghost use Rattle.refs.specs.Follow.{follow};
 ghost use Rattle.refs.specs.Means.{gated, trail-of};
 ghost use Rattle.text.specs.Text.{tab, newline, decimal};
-ghost use Rattle.text.specs.Refshow.{words, refused-line, region-word, followed-text, show-text};
+ghost use Rattle.text.specs.Reflist.{files-check};
+ghost use Rattle.text.specs.Refshow.{words, refused-line, region-word, followed-text, show-text, size-show};
 ghost use Rattle.text.specs.Promises.{Put, PutWithin, longest-words, longest-refused, longest-unfit, longest-show};
 
 // Enough for every answer.
@@ -40,7 +44,7 @@ fn put_words(out: &mut [u8], at: usize, number: u32) -> usize
             return put(out, at, b"a region's size is not a multiple of 512 bytes; look at whether the file was copied whole");
         }
         2 => {
-            return put(out, at, b"a region has more than 4,096 blocks, or, for reflist, 40; look at how many references the repository has, and whether the file is a snapshot");
+            return put(out, at, b"a region has more than 4,096 blocks, or 40 for the programs; look at how many references the repository has, and whether the file is a snapshot");
         }
         3 => {
             return put(out, at, b"a name or a namespace is longer than 250 bytes; look at what was typed or passed");
@@ -213,6 +217,29 @@ fn put_followed(out: &mut [u8], gate: Gate, t: Trail) -> usize
             block,
         } => {
             return put_flaw(out, fitness::reason_number(reason), region, block);
+        }
+    }
+}
+
+// What is written of files from their sizes alone: nothing where the sizes are right.
+pub fn size_show(
+    worktree: usize,
+    common: usize,
+    packed: usize,
+    out: &mut [u8; SHOW_SIZE],
+) -> usize
+    ensures { λ r. ⌜ take r (now (out .exit)) ≡ size-show (files-check worktree common packed) ⌝ }
+{
+    let sizes = sizes_within(MOST_LISTED, worktree, common, packed);
+    match sizes {
+        Sizes::Right => {
+            return 0;
+        }
+        Sizes::NotWhole => {
+            return put_alone(out, 1);
+        }
+        Sizes::TooMany => {
+            return put_alone(out, 2);
         }
     }
 }
