@@ -1,6 +1,4 @@
 // The listing.
-use crate::numbers::entry_number;
-use crate::numbers::name_number;
 use crate::output::ROOM;
 use crate::output::put;
 use crate::output::put_number;
@@ -11,13 +9,16 @@ use crate::set::Kept;
 use names::name::Name;
 use names::name::Verdict;
 use names::name::empty;
+use names::name::refusal_number;
 use names::namespace::expand;
 use refs::overlay_iter::Listed;
 use refs::overlay_iter::Listing;
 use refs::overlay_iter::Opening;
+use refs::overlay_iter::is_opened;
 use refs::overlay_iter::open;
 use refs::overlay_iter::step;
 use refs::raw::Reference;
+use refs::raw::reason_number;
 
 fn put_positions(out: &mut [u8; ROOM], n: usize, state: Listing) -> usize {
     let word_end = put(out, n, b" at");
@@ -32,7 +33,7 @@ fn put_listed(out: &mut [u8; ROOM], n: usize, answer: Listed, r: Reference) -> u
         Listed::NotWhole => put_refused(out, n, 1),
         Listed::TooMany => put_refused(out, n, 2),
         Listed::Entry => put_reference(out, n, b"ref", r),
-        Listed::Refused(why) => put_refused(out, n, entry_number(why)),
+        Listed::Refused(why) => put_refused(out, n, reason_number(why)),
         Listed::Ended => put(out, n, b"ended"),
     }
 }
@@ -92,16 +93,7 @@ fn put_opening(out: &mut [u8; ROOM], n: usize, opening: Opening) -> usize {
         Opening::Opened => n,
         Opening::NotWhole => put_refused_line(out, n, 1),
         Opening::TooMany => put_refused_line(out, n, 2),
-        Opening::Refused(why) => put_refused_line(out, n, name_number(why)),
-    }
-}
-
-fn is_opened(opening: Opening) -> bool {
-    match opening {
-        Opening::Opened => true,
-        Opening::NotWhole => false,
-        Opening::TooMany => false,
-        Opening::Refused(_) => false,
+        Opening::Refused(why) => put_refused_line(out, n, refusal_number(why)),
     }
 }
 

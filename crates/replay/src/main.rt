@@ -4,7 +4,6 @@ mod ask;
 mod block;
 mod input;
 mod listing;
-mod numbers;
 mod output;
 mod search;
 mod set;

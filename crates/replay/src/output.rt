@@ -102,12 +102,12 @@ pub fn put_line(out: &mut [u8; ROOM], n: usize, s: &[u8]) -> usize {
 }
 
 // A refusal by its number, with no line end.
-pub fn put_refused(out: &mut [u8; ROOM], n: usize, number: usize) -> usize {
+pub fn put_refused(out: &mut [u8; ROOM], n: usize, number: u32) -> usize {
     let at = put(out, n, b"refused");
-    put_number(out, at, number)
+    put_number(out, at, number as usize)
 }
 
-pub fn put_refused_line(out: &mut [u8; ROOM], n: usize, number: usize) -> usize {
+pub fn put_refused_line(out: &mut [u8; ROOM], n: usize, number: u32) -> usize {
     let at = put_refused(out, n, number);
     put(out, at, b"\n")
 }

@@ -1,8 +1,4 @@
 // Whether the snapshot is fit for search, search and following.
-use crate::numbers::entry_number;
-use crate::numbers::flaw_number;
-use crate::numbers::name_number;
-use crate::numbers::stop_number;
 use crate::output::ROOM;
 use crate::output::put;
 use crate::output::put_id;
@@ -19,15 +15,18 @@ use blocks::fitness::Sizes;
 use blocks::fitness::Verdict;
 use blocks::fitness::fitness;
 use blocks::fitness::size_check;
+use names::name::refusal_number;
 use refs::check::Gate;
 use refs::find::find;
 use refs::raw::Answered;
 use refs::raw::Kind;
 use refs::raw::Outcome;
 use refs::raw::Reference;
+use refs::raw::reason_number;
 use refs::raw_ext::Ending;
 use refs::raw_ext::Trail;
 use refs::raw_ext::follow;
+use refs::raw_ext::stop_number;
 
 fn put_region(out: &mut [u8; ROOM], n: usize, region: Region) -> usize {
     match region {
@@ -44,7 +43,7 @@ fn put_unfit(
     region: Region,
     block: usize,
 ) -> usize {
-    let number_end = put_refused(out, n, flaw_number(reason));
+    let number_end = put_refused(out, n, blocks::fitness::reason_number(reason));
     let region_end = put_region(out, number_end, region);
     put_number(out, region_end, block)
 }
@@ -109,7 +108,7 @@ fn put_gate(out: &mut [u8; ROOM], n: usize, gate: Gate) -> usize {
         Gate::Passed => n,
         Gate::NotWhole => put_refused(out, n, 1),
         Gate::TooMany => put_refused(out, n, 2),
-        Gate::Refused(why) => put_refused(out, n, name_number(why)),
+        Gate::Refused(why) => put_refused(out, n, refusal_number(why)),
         Gate::Unfit {
             reason,
             region,
@@ -138,7 +137,7 @@ fn put_answer(out: &mut [u8; ROOM], n: usize, a: Answered) -> usize {
     match outcome {
         Outcome::Nothing => put(out, n, b"absent"),
         Outcome::Found => put_reference(out, n, b"found", reference),
-        Outcome::Refused(why) => put_refused(out, n, entry_number(why)),
+        Outcome::Refused(why) => put_refused(out, n, reason_number(why)),
     }
 }
 
@@ -187,7 +186,7 @@ fn put_trail(out: &mut [u8; ROOM], n: usize, t: Trail) -> usize {
             let number_end = put_refused(out, n, stop_number(why));
             put_name(out, number_end, name)
         }
-        Ending::Refused(why) => put_refused(out, n, entry_number(why)),
+        Ending::Refused(why) => put_refused(out, n, reason_number(why)),
     }
 }
 

@@ -1,6 +1,4 @@
 // Questions that no snapshot answers: about names, and the content of a loose file.
-use crate::numbers::content_number;
-use crate::numbers::name_number;
 use crate::output::ROOM;
 use crate::output::put;
 use crate::output::put_bytes;
@@ -26,6 +24,7 @@ use names::name::Name;
 use names::name::Verdict;
 use names::name::is_pseudo_ref;
 use names::name::lend;
+use names::name::refusal_number;
 use names::namespace::expand;
 use names::validate::complete;
 use names::validate::well_formed;
@@ -88,7 +87,7 @@ fn put_made(out: &mut [u8; ROOM], n: usize, verdict: Verdict, name: Name) -> usi
             let name_end = put_name(out, word_end, name);
             put(out, name_end, b"\n")
         }
-        Verdict::Refused(why) => put_refused_line(out, n, name_number(why)),
+        Verdict::Refused(why) => put_refused_line(out, n, refusal_number(why)),
     }
 }
 
@@ -117,7 +116,7 @@ fn ask_content(s: &[u8], out: &mut [u8; ROOM], n: usize) -> usize {
             let word_end = put(out, n, b"symbolic");
             put_name(out, word_end, name)
         }
-        TargetKind::Refused(why) => put_refused(out, n, content_number(why)),
+        TargetKind::Refused(why) => put_refused(out, n, blocks::decode::refusal_number(why)),
     };
     put(out, at, b"\n")
 }

@@ -25,8 +25,8 @@ backwards : (k n : ℕ) (r : Bytes) → reverseAux (low k n) r ≡ digits 10 k n
 backwards zero n r = refl
 backwards (suc k) n r =
     backwards k (n / 10) ((48 + n % 10) ∷ r)
-        ∙ ap (λ (d : ℕ). digits 10 k (n / 10) ++ (d ∷ r)) (sym (glyph-is (n % 10) (omega arith)))
-        ∙ sym (append-assoc (digits 10 k (n / 10)) (glyph (n % 10) ∷ []) r)
+    ∙ ap (λ (d : ℕ). digits 10 k (n / 10) ++ (d ∷ r)) (sym (glyph-is (n % 10) (omega arith)))
+    ∙ sym (append-assoc (digits 10 k (n / 10)) (glyph (n % 10) ∷ []) r)
 
 -- ---- one more
 
@@ -52,6 +52,7 @@ within (suc k) n h = go (eqb (n % 10) 9) refl (within k (n / 10))
   where
     less : suc n < 10 ^ k * 10
     less = rw (← pow-suc 10 k) h
+
     go : (b : Bool) → eqb (n % 10) 9 ≡ b → (suc (n / 10) < 10 ^ k → one-more (low k (n / 10)) ≡ low k (suc (n / 10))) → one-more (low (suc k) n) ≡ low (suc k) (suc n)
     go true e ih =
         let nine : n % 10 ≡ 9 = eqb-true (n % 10) 9 e in
@@ -93,6 +94,7 @@ grows n ih (suc (suc k)) f = go (leb (10 ^ suc k) n) refl
   where
     power : 10 ^ suc k ≡ 10 ^ k * 10
     power = pow-suc 10 k
+
     go : (b : Bool) → leb (10 ^ suc k) n ≡ b → low (suc (suc k)) (suc n) ≡ one-more (numeral n)
     go true e = sym (within (suc (suc k)) n (f .1)) ∙ ap one-more (ih (suc (suc k)) (f .0, omega (arith, f .1), λ h. simp unary-clauses (omega (arith, power, leb-true (10 ^ suc k) n e))))
     go false e =

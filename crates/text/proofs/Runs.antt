@@ -70,8 +70,8 @@ module _ (s : Snapshot) (n i : ℕ) (st : State) where
       let left : n - i ≡ suc (n - (i + 1)) = omega arith in
       let more : lines s (n - i) st ≡ answer-line (step id-width s st .answer) ++ lines s (n - (i + 1)) (step id-width s st .next) = rw left (first-line s (n - (i + 1)) st) in
       rw (p .text) (append-assoc (take e b) (answer-line (listed-with (d .answer) (reference-of (d .reference)))) (lines s (n - (i + 1)) (state-of (d .next)))
-          ∙ ap (λ (x : Bytes). take e b ++ x) (rw (more, ← q))
-          ∙ inv)
+      ∙ ap (λ (x : Bytes). take e b ++ x) (rw (more, ← q))
+      ∙ inv)
 
   pub count-turned : (d : Stepped) (w k m : ℕ) → i < n → step-of d ≡ step id-width s st → w ≡ listed-weight (d .answer)
       → k + counted s (n - i) st ≡ m → k + w + counted s (n - (i + 1)) (state-of (d .next)) ≡ m
@@ -138,6 +138,7 @@ few-blocks w c p has e q h = rw (← q) (go (whole (length w) && whole (length e
   where
     fit : Bytes → Bool
     fit s = not-too-many most-listed (length s)
+
     go : (b x y z : Bool) → (x ≡ true → length w ≤ most-listed * block-size) → (y ≡ true → length e ≤ most-listed * block-size) → (z ≡ true → length p ≤ most-listed * block-size)
         → (unless 1 b or-else unless 2 (x && y && z)) ≡ none
         → length w / block-size + length e / block-size + length p / block-size ≤ most-steps

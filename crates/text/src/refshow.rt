@@ -41,49 +41,109 @@ fn put_words(out: &mut [u8], at: usize, number: u32) -> usize
 {
     match number {
         1 => {
-            return put(out, at, b"a region's size is not a multiple of 512 bytes; look at whether the file was copied whole");
+            return put(
+                out,
+                at,
+                b"a region's size is not a multiple of 512 bytes; look at whether the file was copied whole",
+            );
         }
         2 => {
-            return put(out, at, b"a region has more than 4,096 blocks, or 40 for the programs; look at how many references the repository has, and whether the file is a snapshot");
+            return put(
+                out,
+                at,
+                b"a region has more than 4,096 blocks, or 40 for the programs; look at how many references the repository has, and whether the file is a snapshot",
+            );
         }
         3 => {
-            return put(out, at, b"a name or a namespace is longer than 250 bytes; look at what was typed or passed");
+            return put(
+                out,
+                at,
+                b"a name or a namespace is longer than 250 bytes; look at what was typed or passed",
+            );
         }
         4 => {
-            return put(out, at, b"a name or a namespace is not one that git allows; look at what was typed: two dots, a space, a slash at an end, `.lock`, and the like");
+            return put(
+                out,
+                at,
+                b"a name or a namespace is not one that git allows; look at what was typed: two dots, a space, a slash at an end, `.lock`, and the like",
+            );
         }
         5 => {
-            return put(out, at, b"a namespace grows to more than 250 bytes where it is written out; look at the namespace: a shorter one is needed");
+            return put(
+                out,
+                at,
+                b"a namespace grows to more than 250 bytes where it is written out; look at the namespace: a shorter one is needed",
+            );
         }
         6 => {
-            return put(out, at, b"a block is damaged: its sum, its lengths or its kind are wrong; look at the block that is told, and make the snapshot anew");
+            return put(
+                out,
+                at,
+                b"a block is damaged: its sum, its lengths or its kind are wrong; look at the block that is told, and make the snapshot anew",
+            );
         }
         7 => {
-            return put(out, at, b"a block says that a directory or packed-refs could not be read; look at the disc and the permissions where the snapshot was made");
+            return put(
+                out,
+                at,
+                b"a block says that a directory or packed-refs could not be read; look at the disc and the permissions where the snapshot was made",
+            );
         }
         8 => {
-            return put(out, at, b"a name is not above the one before it in its region; look at how the snapshot was made: names must rise");
+            return put(
+                out,
+                at,
+                b"a name is not above the one before it in its region; look at how the snapshot was made: names must rise",
+            );
         }
         9 => {
-            return put(out, at, b"a reference's file was there and could not be read; look at the permissions of that file where the snapshot was made");
+            return put(
+                out,
+                at,
+                b"a reference's file was there and could not be read; look at the permissions of that file where the snapshot was made",
+            );
         }
         10 => {
-            return put(out, at, b"a reference's file holds neither an id nor `ref: ` and a name; look at the file: it may be cut short or hold something else");
+            return put(
+                out,
+                at,
+                b"a reference's file holds neither an id nor `ref: ` and a name; look at the file: it may be cut short or hold something else",
+            );
         }
         11 => {
-            return put(out, at, b"a symbolic reference names something that is no reference's name; look at the file's text behind `ref: `");
+            return put(
+                out,
+                at,
+                b"a symbolic reference names something that is no reference's name; look at the file's text behind `ref: `",
+            );
         }
         12 => {
-            return put(out, at, b"the repository keeps its references in another way (reftable); look at how it keeps them: this reader can't serve it");
+            return put(
+                out,
+                at,
+                b"the repository keeps its references in another way (reftable); look at how it keeps them: this reader can't serve it",
+            );
         }
         13 => {
-            return put(out, at, b"a symbolic reference leads to a name that is not there; look at the last reference reached, and its target");
+            return put(
+                out,
+                at,
+                b"a symbolic reference leads to a name that is not there; look at the last reference reached, and its target",
+            );
         }
         14 => {
-            return put(out, at, b"symbolic references lead back to a name that was passed; look at the last reference reached: the chain runs in a circle");
+            return put(
+                out,
+                at,
+                b"symbolic references lead back to a name that was passed; look at the last reference reached: the chain runs in a circle",
+            );
         }
         15 => {
-            return put(out, at, b"a chain of symbolic references passes five names; look at the last reference reached: shorten the chain");
+            return put(
+                out,
+                at,
+                b"a chain of symbolic references passes five names; look at the last reference reached: shorten the chain",
+            );
         }
         _ => {
             return at;
@@ -222,12 +282,7 @@ fn put_followed(out: &mut [u8], gate: Gate, t: Trail) -> usize
 }
 
 // What is written of files from their sizes alone: nothing where the sizes are right.
-pub fn size_show(
-    worktree: usize,
-    common: usize,
-    packed: usize,
-    out: &mut [u8; SHOW_SIZE],
-) -> usize
+pub fn size_show(worktree: usize, common: usize, packed: usize, out: &mut [u8; SHOW_SIZE]) -> usize
     ensures { λ r. ⌜ take r (now (out .exit)) ≡ size-show (files-check worktree common packed) ⌝ }
 {
     let sizes = sizes_within(MOST_LISTED, worktree, common, packed);
