@@ -3,3 +3,4 @@ pub mod Puts
 pub mod Decimal
 pub mod Runs
 pub mod Shows
+pub mod Whole

@@ -1,0 +1,26 @@
+-- `reflist` leaves nothing out: after its steps the listing answers that it is ended.
+use mathlib.Core.Path.{_≡_}
+use Prim.Native.Nat.{ℕ, _/_, _≤_}
+use mathlib.Core.Bool.{true}
+use mathlib.Core.Option.{Option, none, some, Option·map}
+use native.Mathlib.Omega.{arith}
+use lib.ListN.{length}
+use Rattle.names.specs.Bytes.{Bytes}
+use Rattle.blocks.specs.Layout.{block-size}
+use Rattle.blocks.specs.Block.{Region}
+use Rattle.blocks.specs.Entry.{entries}
+use Rattle.blocks.specs.Snapshot.{Snapshot, store, or-empty, size-check}
+use Rattle.blocks.proofs.Walks.{length-entries}
+use Rattle.refs.specs.Run.{start, is-nothing, step, run}
+use Rattle.refs.proofs.Moves.{remaining, run-ends}
+use Rattle.text.specs.Reflist.{block-total}
+
+common-length : (width : ℕ) (c : Option Bytes) → length (or-empty (Option·map (entries width Region.common) c)) ≡ length (or-empty c) / block-size
+common-length width none = omega arith
+common-length width (some s) = length-entries width Region.common s
+
+pub all-handed-out : (width : ℕ) (s : Snapshot) (e : Bytes) → size-check s ≡ none → is-nothing (step width s (run width s (block-total s) (start e) .last) .answer) ≡ true
+unfolding block-total store
+all-handed-out width s e z =
+    run-ends width s (block-total s) (start e) z
+    (omega (arith, length-entries width Region.worktree (s .worktree), common-length width (s .common), length-entries width Region.packed (s .packed)))
