@@ -6,13 +6,13 @@ use mathlib.Core.List.{_∷_}
 use mathlib.Core.Option.{Option, none, some}
 use Prim.Native.Nat.{ℕ, _+_, _<_}
 use native.Mathlib.Omega.{arith}
-use borrow.Author.Tests.{ltb-true, ltb-false, leb-false}
+use borrow.Author.Tests.{ltb-true, ltb-false, leb-false, eqb-true}
 use lib.Dec.{leb, ltb, eqb}
 use lib.ListN.{length, take, drop, length-take, length-drop}
 use lib.Seq.{take-all}
 use Rattle.names.specs.Bytes.{Bytes, if_then_else_, every}
 use Rattle.names.specs.WellFormed.{well-formed}
-use Rattle.names.proofs.Tests.{none≢some, and-left, and-right, or-eq, eqb-eq}
+use Rattle.names.proofs.Tests.{none≢some, and-left, and-right, or-eq}
 use Rattle.blocks.specs.Layout.{block-size}
 use Rattle.blocks.specs.Content.{is-hex, lower-case}
 use Rattle.blocks.specs.Block.{Region, block-kind, content-length, block-name, block-content, layout-right, kind-suits, record-right, shape-right, sound}
@@ -69,7 +69,7 @@ module _ (width : ℕ) (r : Region) (b : Bytes) (l : length b ≡ block-size) (h
   unfolding record-right
   right e =
       let sizes = and-right (well-formed (block-name b)) _ (and-left _ (every is-hex (block-content b)) e) in
-      rw length-content (or-eq (eqb (content-length b) width) (eqb (content-length b) (width + width)) sizes (λ a. inl (eqb-eq _ _ a)) (λ a. inr (eqb-eq _ _ a)))
+      rw length-content (or-eq (eqb (content-length b) width) (eqb (content-length b) (width + width)) sizes (λ a. inl (eqb-true _ _ a)) (λ a. inr (eqb-true _ _ a)))
 
   shape : shape-right width b ≡ true
   unfolding sound
@@ -88,7 +88,7 @@ module _ (width : ℕ) (r : Region) (b : Bytes) (l : length b ≡ block-size) (h
         where
           other : {A : Type 0} → unread (name-within b) ≡ packed-record n t p → A
           other q = absurd (let z : _≡_ {A = ℕ} 0 1 = cc in omega arith)
-      go false false true e₁ e₂ e₄ f = record-is (rw (e₁, e₂, e₄) at f) (right (sym (shape-record width b (eqb-eq _ _ e₄)) ∙ shape))
+      go false false true e₁ e₂ e₄ f = record-is (rw (e₁, e₂, e₄) at f) (right (sym (shape-record width b (eqb-true _ _ e₄)) ∙ shape))
         where
           record-is : packed-record (name-within b) (take width (content-within b)) (peeled-in width (content-within b)) ≡ packed-record n t p
               → (length (block-content b) ≡ width) ⊎ (length (block-content b) ≡ width + width) → Ids width (content-within b) t p

@@ -5,7 +5,8 @@ use mathlib.Core.List.{List, [], _∷_, _++_}
 use mathlib.Core.Bool.{Bool, true, false, _&&_, _||_, not}
 use Rattle.names.specs.Bytes.{Bytes, if_then_else_, same}
 use Rattle.names.specs.Name.{directory}
-use Rattle.names.proofs.Tests.{and-left, and-right, or-eq, or-false, not-true, not-both}
+use borrow.Author.Tests.{not-true}
+use Rattle.names.proofs.Tests.{and-left, and-right, or-eq, or-false, not-both}
 use Rattle.names.proofs.Orders.{same-eq}
 use Rattle.blocks.specs.Block.{block-name}
 use Rattle.blocks.specs.Entry.{blocks}

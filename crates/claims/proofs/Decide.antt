@@ -12,7 +12,8 @@ use Rattle.names.specs.Name.{under-refs, remote-head}
 use Rattle.names.specs.WellFormed.{well-formed}
 use Rattle.names.specs.Category.{is-private}
 use Rattle.names.specs.Route.{Base, own, shared, route}
-use Rattle.names.proofs.Tests.{and-left, and-right, eqb-eq, not-true}
+use borrow.Author.Tests.{eqb-true, not-true}
+use Rattle.names.proofs.Tests.{and-left, and-right}
 use Rattle.names.proofs.Orders.{same-eq}
 use Rattle.blocks.specs.Content.{object, symbolic, Reading, reads, unreadable, lower-case, read}
 use Rattle.blocks.specs.Snapshot.{Snapshot, or-empty, is-there, region-at, size-check, store, store-flaw, Fit}
@@ -90,7 +91,7 @@ same-held-eq [] (g ∷ m) e = absurd (false≢true e)
 same-held-eq (h ∷ l) [] e = absurd (false≢true e)
 same-held-eq (h ∷ l) (g ∷ m) e =
     let k = passed (eqb (h .kind) (g .kind) ∷ same (h .content) (g .content) ∷ same-held l m ∷ []) e in
-    ap₂ _∷_ (held-eq h g (eqb-eq (h .kind) (g .kind) (k .0)) (same-eq (h .content) (g .content) (k .1 .0))) (same-held-eq l m (k .1 .1 .0))
+    ap₂ _∷_ (held-eq h g (eqb-true (h .kind) (g .kind) (k .0)) (same-eq (h .content) (g .content) (k .1 .0))) (same-held-eq l m (k .1 .1 .0))
 
 -- ---- a differing name
 
@@ -151,7 +152,7 @@ module _ (out : Option Premise) (width : ℕ) where
               base = b;
               is-read = keeps out where-search-reads (same-base b (route n .base)) (base-eq b (route n .base)) (and-left (if-kept out where-search-reads (same-base b (route n .base))) _ h);
               content = g .content;
-              there = e ∙ ap₂ _∷_ (held-eq g (block 1 (g .content)) (eqb-eq (g .kind) 1 (and-left (eqb (g .kind) 1) _ k)) refl) refl;
+              there = e ∙ ap₂ _∷_ (held-eq g (block 1 (g .content)) (eqb-true (g .kind) 1 (and-left (eqb (g .kind) 1) _ k)) refl) refl;
               decodes = reads-id-eq (read width (g .content)) id (and-right (eqb (g .kind) 1) _ k);
             }
         go (g ∷ f ∷ l) e k = absurd (false≢true k)
@@ -165,7 +166,7 @@ module _ (out : Option Premise) (width : ℕ) where
         go (g ∷ []) e k =
             record {
               content = g .content;
-              there = e ∙ ap₂ _∷_ (held-eq g (block 4 (g .content)) (eqb-eq (g .kind) 4 (and-left (eqb (g .kind) 4) _ k)) refl) refl;
+              there = e ∙ ap₂ _∷_ (held-eq g (block 4 (g .content)) (eqb-true (g .kind) 4 (and-left (eqb (g .kind) 4) _ k)) refl) refl;
               target = same-eq (lower-case (take width (g .content))) id (and-right (eqb (g .kind) 4) _ k);
             }
         go (g ∷ f ∷ l) e k = absurd (false≢true k)

@@ -12,7 +12,8 @@ use Rattle.names.specs.Bytes.{Bytes, bytes, same}
 use Rattle.names.specs.Check.{Checked, gives, refuses}
 use Rattle.names.specs.WellFormed.{well-formed}
 use Rattle.names.specs.Route.{own, shared}
-use Rattle.names.proofs.Tests.{and-left, and-right, not-both, not-true}
+use borrow.Author.Tests.{not-true}
+use Rattle.names.proofs.Tests.{and-left, and-right, not-both}
 use Rattle.names.proofs.Orders.{same-refl}
 use Rattle.blocks.specs.Content.{Target, object, symbolic}
 use Rattle.blocks.specs.Snapshot.{Snapshot}

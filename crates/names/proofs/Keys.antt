@@ -6,9 +6,9 @@ use mathlib.Core.Bool.{Bool, true, false, _&&_, _||_, false≢true, or-true}
 use mathlib.Core.Logic.{inl, inr, ⊎-elim}
 use types.Run.{OneOf}
 use lib.Dec.{eqb}
-use borrow.Author.Tests.{eq-eqb, ne-eqb}
+use borrow.Author.Tests.{eq-eqb, ne-eqb, eqb-true}
 use Rattle.names.specs.Bytes.{Bytes, starts-with, contains, every}
-use Rattle.names.proofs.Tests.{and-left, and-right, eqb-eq, false-of, not-both}
+use Rattle.names.proofs.Tests.{and-left, and-right, false-of, not-both}
 
 module _ (b : ℕ) where
   one-of : (ks : Bytes) → OneOf ks b → contains (b ∷ []) ks ≡ true
@@ -33,7 +33,7 @@ module _ (b : ℕ) where
   inside (k ∷ ks) l a h = go (eqb b k) refl h (inside ks l (and-right (contains (k ∷ []) l) _ a))
     where
       go : (t : Bool) → eqb b k ≡ t → (t && true || contains (b ∷ []) ks) ≡ true → (contains (b ∷ []) ks ≡ true → contains (b ∷ []) l ≡ true) → contains (b ∷ []) l ≡ true
-      go true e h′ ih = rw (eqb-eq b k e) (and-left (contains (k ∷ []) l) _ a)
+      go true e h′ ih = rw (eqb-true b k e) (and-left (contains (k ∷ []) l) _ a)
       go false e h′ ih = ih h′
 
   pub listed : (ks l : Bytes) → All-in ks l → OneOf ks b → contains (b ∷ []) l ≡ true

@@ -45,12 +45,6 @@ stored l n x h = rw (add-one, take-suc-set l n x h) (map-snoc (take n l) x)
 
 -- ---- following depends on which names were seen, not on their order
 
-or-comm : (a b : Bool) → (a || b || false) ≡ (b || a)
-or-comm true true = refl
-or-comm true false = refl
-or-comm false true = refl
-or-comm false false = refl
-
 or-swap : (a b c : Bool) → (a || (b || c)) ≡ (b || (a || c))
 or-swap true true c = refl
 or-swap true false c = refl
