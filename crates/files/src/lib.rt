@@ -1,6 +1,9 @@
 // The files of a snapshot, read into lent buffers. No contract can say what is read; a file's size is its whole size,
 // though no more of it is read than the buffer holds.
 
+ghost use mathlib.Core.Path.{_≡_};
+ghost use Rattle.files.specs.Loaded.{is-missing, is-failed, size-of};
+
 pub enum Loaded {
     Missing,
     Failed,
@@ -67,7 +70,9 @@ pub fn load(path: &[u8], buf: &mut [u8]) -> Loaded {
     loaded
 }
 
-pub fn is_missing(l: Loaded) -> bool {
+pub fn is_missing(l: Loaded) -> bool
+    ensures { λ r. ⌜ r ≡ is-missing l ⌝ }
+{
     match l {
         Loaded::Missing => true,
         Loaded::Failed => false,
@@ -75,7 +80,9 @@ pub fn is_missing(l: Loaded) -> bool {
     }
 }
 
-pub fn is_failed(l: Loaded) -> bool {
+pub fn is_failed(l: Loaded) -> bool
+    ensures { λ r. ⌜ r ≡ is-failed l ⌝ }
+{
     match l {
         Loaded::Missing => false,
         Loaded::Failed => true,
@@ -84,7 +91,9 @@ pub fn is_failed(l: Loaded) -> bool {
 }
 
 // The whole size; 0 of a file that is missing.
-pub fn size(l: Loaded) -> usize {
+pub fn size(l: Loaded) -> usize
+    ensures { λ r. ⌜ r ≡ size-of l ⌝ }
+{
     match l {
         Loaded::Missing => 0,
         Loaded::Failed => 0,

@@ -151,7 +151,7 @@ fn ask_stepping<'a>(
 }
 
 // The answer to a line that sets nothing. `a` and `b` are room for its byte strings.
-pub fn ask<'a>(
+pub(crate) fn ask<'a>(
     line: &[u8],
     kept: Kept,
     worktree: &'a [u8],

@@ -33,7 +33,7 @@ fn put_unread(s: &[u8], out: &mut [u8; ROOM], n: usize) -> usize {
     put_bytes(out, word_end, block_name(s, 0))
 }
 
-pub fn ask_block(s: &[u8], region: Region, out: &mut [u8; ROOM], n: usize) -> usize {
+pub(crate) fn ask_block(s: &[u8], region: Region, out: &mut [u8; ROOM], n: usize) -> usize {
     if s.len() != BLOCK_SIZE {
         return put_unknown(out, n);
     }

@@ -9,23 +9,23 @@ ghost use Rattle.names.specs.Bytes.{every};
 ghost use Rattle.replay.specs.Input.{most, is-digit, digit-value, pairs, is-pairs, Reads, largest, number-behind, number-in, read-in};
 
 // The longest byte string: 40 blocks and one byte.
-pub const MOST: usize = 20481;
+pub(crate) const MOST: usize = 20481;
 
 // A byte string that was read: not ok where the field has another shape, not there where it says that there is none.
-pub struct Given {
+pub(crate) struct Given {
     pub ok: bool,
     pub there: bool,
     pub len: usize,
 }
 
 // A number that was read; not ok where the field is none, or too large.
-pub struct Number {
+pub(crate) struct Number {
     pub ok: bool,
     pub value: usize,
 }
 
 // How many fields a line has: 0 where one is empty.
-pub fn count_fields(line: &[u8]) -> usize {
+pub(crate) fn count_fields(line: &[u8]) -> usize {
     let mut count: usize = 1;
     let mut is_empty = true;
     let mut i: usize = 0;
@@ -48,7 +48,7 @@ pub fn count_fields(line: &[u8]) -> usize {
 }
 
 // Where b stands first, or the length.
-pub fn find_byte(s: &[u8], b: u8) -> usize
+pub(crate) fn find_byte(s: &[u8], b: u8) -> usize
     ensures { λ r. ⌜ r ≤ length (now (s .entry)) ⌝ }
 {
     let mut i: usize = 0;
@@ -61,7 +61,7 @@ pub fn find_byte(s: &[u8], b: u8) -> usize
     i
 }
 
-pub fn first_field(s: &[u8]) -> &[u8] {
+pub(crate) fn first_field(s: &[u8]) -> &[u8] {
     let e = find_byte(s, b' ');
     &s[0..e]
 }
@@ -76,15 +76,15 @@ fn behind_first(s: &[u8]) -> &[u8] {
     &s[0..0]
 }
 
-pub fn second_field(s: &[u8]) -> &[u8] {
+pub(crate) fn second_field(s: &[u8]) -> &[u8] {
     first_field(behind_first(s))
 }
 
-pub fn third_field(s: &[u8]) -> &[u8] {
+pub(crate) fn third_field(s: &[u8]) -> &[u8] {
     second_field(behind_first(s))
 }
 
-pub fn fourth_field(s: &[u8]) -> &[u8] {
+pub(crate) fn fourth_field(s: &[u8]) -> &[u8] {
     third_field(behind_first(s))
 }
 
@@ -151,7 +151,7 @@ fn is_pairs(s: &[u8]) -> bool
 }
 
 // The byte string that a field gives. Where it gives none, `to` stays as it is.
-pub fn read_bytes(s: &[u8], to: &mut [u8; MOST]) -> Given
+pub(crate) fn read_bytes(s: &[u8], to: &mut [u8; MOST]) -> Given
     ensures { λ r. ⌜ Reads (now (s .entry)) (now (to .entry)) (now (to .exit)) r ⌝ }
 {
     if equal(s, b"-") {
@@ -177,7 +177,7 @@ pub fn read_bytes(s: &[u8], to: &mut [u8; MOST]) -> Given
 }
 
 // The same where the field may say that there is none.
-pub fn read_optional(s: &[u8], to: &mut [u8; MOST]) -> Given {
+pub(crate) fn read_optional(s: &[u8], to: &mut [u8; MOST]) -> Given {
     if equal(s, b"~") {
         return Given {
             ok: true,
@@ -216,7 +216,7 @@ fn with_digit(value: usize, b: u8) -> Number
     }
 }
 
-pub fn read_number(s: &[u8]) -> Number
+pub(crate) fn read_number(s: &[u8]) -> Number
     ensures { λ r. ⌜ read-in r ≡ number-in (now (s .entry)) ⌝ }
 {
     if s.len() == 0 {

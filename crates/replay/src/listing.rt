@@ -98,7 +98,7 @@ fn put_opening(out: &mut [u8; ROOM], n: usize, opening: Opening) -> usize {
 }
 
 // The opening and so many steps.
-pub fn ask_listing<'a>(
+pub(crate) fn ask_listing<'a>(
     kept: Kept,
     worktree: &'a [u8],
     common: &'a [u8],
@@ -125,7 +125,7 @@ pub fn ask_listing<'a>(
 }
 
 // The positions that a step starts from.
-pub struct Places {
+pub(crate) struct Places {
     pub worktree: usize,
     pub common: usize,
     pub packed: usize,
@@ -162,7 +162,7 @@ fn scope_of(namespace: &[u8], has_namespace: bool) -> Scope {
 }
 
 // One step from any positions. The opening is asked only why a namespace is refused: in regions of a wrong size 1 is the step's.
-pub fn ask_step<'a>(
+pub(crate) fn ask_step<'a>(
     kept: Kept,
     worktree: &'a [u8],
     common: &'a [u8],

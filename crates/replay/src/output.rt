@@ -4,10 +4,10 @@ use names::name::Name;
 use names::name::lend;
 ghost use Prim.Native.Nat.{_<_};
 
-pub const ROOM: usize = 65536;
+pub(crate) const ROOM: usize = 65536;
 
 // Writes what waits. A reader that went away is no matter here: what it does not take is dropped.
-pub fn flush(out: &[u8; ROOM], n: usize) -> usize {
+pub(crate) fn flush(out: &[u8; ROOM], n: usize) -> usize {
     io::write_all(1, lend(out, n));
     0
 }
@@ -22,7 +22,7 @@ fn put_byte(out: &mut [u8; ROOM], n: usize, b: u8) -> usize {
     1
 }
 
-pub fn put(out: &mut [u8; ROOM], n: usize, s: &[u8]) -> usize {
+pub(crate) fn put(out: &mut [u8; ROOM], n: usize, s: &[u8]) -> usize {
     let mut at = n;
     let mut i: usize = 0;
     while i < s.len() {
@@ -58,7 +58,7 @@ fn put_pairs(out: &mut [u8; ROOM], n: usize, s: &[u8]) -> usize {
 }
 
 // A byte string, behind a space.
-pub fn put_bytes(out: &mut [u8; ROOM], n: usize, s: &[u8]) -> usize {
+pub(crate) fn put_bytes(out: &mut [u8; ROOM], n: usize, s: &[u8]) -> usize {
     if s.len() == 0 {
         return put(out, n, b" -");
     }
@@ -66,21 +66,21 @@ pub fn put_bytes(out: &mut [u8; ROOM], n: usize, s: &[u8]) -> usize {
     put_pairs(out, at, s)
 }
 
-pub fn put_name(out: &mut [u8; ROOM], n: usize, name: Name) -> usize {
+pub(crate) fn put_name(out: &mut [u8; ROOM], n: usize, name: Name) -> usize {
     let b = name.bytes;
     let len = name.len;
     put_bytes(out, n, lend(&b, len))
 }
 
 // An id, behind a space.
-pub fn put_id(out: &mut [u8; ROOM], n: usize, id: Id) -> usize {
+pub(crate) fn put_id(out: &mut [u8; ROOM], n: usize, id: Id) -> usize {
     let d = id.digits;
     let at = put(out, n, b" ");
     put(out, at, &d)
 }
 
 // An id that may be absent.
-pub fn put_peeled(out: &mut [u8; ROOM], n: usize, is_there: bool, id: Id) -> usize {
+pub(crate) fn put_peeled(out: &mut [u8; ROOM], n: usize, is_there: bool, id: Id) -> usize {
     if is_there {
         return put_id(out, n, id);
     }
@@ -88,7 +88,7 @@ pub fn put_peeled(out: &mut [u8; ROOM], n: usize, is_there: bool, id: Id) -> usi
 }
 
 // A number, behind a space.
-pub fn put_number(out: &mut [u8; ROOM], n: usize, x: usize) -> usize {
+pub(crate) fn put_number(out: &mut [u8; ROOM], n: usize, x: usize) -> usize {
     let mut text = [0u8; 20];
     let k = io::decimal(x as u64, &mut text);
     let at = put(out, n, b" ");
@@ -96,23 +96,23 @@ pub fn put_number(out: &mut [u8; ROOM], n: usize, x: usize) -> usize {
 }
 
 // A whole line.
-pub fn put_line(out: &mut [u8; ROOM], n: usize, s: &[u8]) -> usize {
+pub(crate) fn put_line(out: &mut [u8; ROOM], n: usize, s: &[u8]) -> usize {
     let at = put(out, n, s);
     put(out, at, b"\n")
 }
 
 // A refusal by its number, with no line end.
-pub fn put_refused(out: &mut [u8; ROOM], n: usize, number: u32) -> usize {
+pub(crate) fn put_refused(out: &mut [u8; ROOM], n: usize, number: u32) -> usize {
     let at = put(out, n, b"refused");
     put_number(out, at, number as usize)
 }
 
-pub fn put_refused_line(out: &mut [u8; ROOM], n: usize, number: u32) -> usize {
+pub(crate) fn put_refused_line(out: &mut [u8; ROOM], n: usize, number: u32) -> usize {
     let at = put_refused(out, n, number);
     put(out, at, b"\n")
 }
 
 // The answer to a line that has no right shape.
-pub fn put_unknown(out: &mut [u8; ROOM], n: usize) -> usize {
+pub(crate) fn put_unknown(out: &mut [u8; ROOM], n: usize) -> usize {
     put(out, n, b"?\n")
 }

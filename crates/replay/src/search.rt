@@ -62,7 +62,7 @@ fn put_fitness(out: &mut [u8; ROOM], n: usize, v: Verdict) -> usize {
     }
 }
 
-pub fn ask_fitness(
+pub(crate) fn ask_fitness(
     kept: Kept,
     worktree: &[u8],
     common: &[u8],
@@ -80,7 +80,7 @@ pub fn ask_fitness(
 }
 
 // A reference behind a word: its name, its target and its peeled id.
-pub fn put_reference(out: &mut [u8; ROOM], n: usize, word: &[u8], r: Reference) -> usize {
+pub(crate) fn put_reference(out: &mut [u8; ROOM], n: usize, word: &[u8], r: Reference) -> usize {
     let name = r.name;
     let kind = r.kind;
     let word_end = put(out, n, word);
@@ -141,7 +141,7 @@ fn put_answer(out: &mut [u8; ROOM], n: usize, a: Answered) -> usize {
     }
 }
 
-pub fn ask_search<'a>(
+pub(crate) fn ask_search<'a>(
     kept: Kept,
     worktree: &'a [u8],
     common: &'a [u8],
@@ -190,7 +190,7 @@ fn put_trail(out: &mut [u8; ROOM], n: usize, t: Trail) -> usize {
     }
 }
 
-pub fn ask_following<'a>(
+pub(crate) fn ask_following<'a>(
     kept: Kept,
     worktree: &'a [u8],
     common: &'a [u8],

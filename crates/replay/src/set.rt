@@ -8,7 +8,7 @@ use crate::input::second_field;
 use names::bytes::equal;
 
 // What is set: the length of each byte string, and whether it is there. An absent packed region is an empty one.
-pub struct Kept {
+pub(crate) struct Kept {
     pub worktree: usize,
     pub common: usize,
     pub has_common: bool,
@@ -18,7 +18,7 @@ pub struct Kept {
 }
 
 // At the start the worktree is empty, and nothing else is there.
-pub fn nothing_set() -> Kept {
+pub(crate) fn nothing_set() -> Kept {
     Kept {
         worktree: 0,
         common: 0,
@@ -30,7 +30,7 @@ pub fn nothing_set() -> Kept {
 }
 
 // What a line sets; not ok where it is none that sets something.
-pub struct Setting {
+pub(crate) struct Setting {
     pub ok: bool,
     pub kept: Kept,
 }
@@ -86,7 +86,7 @@ fn set_namespace(value: &[u8], kept: Kept, namespace: &mut [u8; MOST]) -> Settin
 }
 
 // A line that sets something is a word and its value.
-pub fn set(
+pub(crate) fn set(
     line: &[u8],
     kept: Kept,
     worktree: &mut [u8; MOST],

@@ -122,7 +122,7 @@ fn ask_content(s: &[u8], out: &mut [u8; ROOM], n: usize) -> usize {
 }
 
 // A question about one byte string.
-pub fn ask_of_one(word: &[u8], s: &[u8], out: &mut [u8; ROOM], n: usize) -> usize {
+pub(crate) fn ask_of_one(word: &[u8], s: &[u8], out: &mut [u8; ROOM], n: usize) -> usize {
     if equal(word, b"wellformed") {
         return put_yes_no(out, n, well_formed(s));
     }
@@ -145,7 +145,7 @@ pub fn ask_of_one(word: &[u8], s: &[u8], out: &mut [u8; ROOM], n: usize) -> usiz
 }
 
 // A question about two.
-pub fn ask_of_two(word: &[u8], s: &[u8], t: &[u8], out: &mut [u8; ROOM], n: usize) -> usize {
+pub(crate) fn ask_of_two(word: &[u8], s: &[u8], t: &[u8], out: &mut [u8; ROOM], n: usize) -> usize {
     if equal(word, b"order") {
         return put_order(out, n, compare(s, t));
     }
@@ -230,7 +230,7 @@ fn read_category(word: &[u8]) -> Named {
 }
 
 // The full name of a short one.
-pub fn ask_full_name(
+pub(crate) fn ask_full_name(
     word: &[u8],
     worktree: &[u8],
     has_worktree: bool,

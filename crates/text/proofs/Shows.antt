@@ -1,6 +1,6 @@
--- The words of refusals, and the text of what following gives.
+-- The words of refusals.
 use mathlib.Core.Path.{_≡_, refl}
-use Prim.Native.Nat.{ℕ, suc, _≤_}
+use Prim.Native.Nat.{ℕ, _≤_}
 use mathlib.Core.Bool.{Bool, true, false}
 use mathlib.Core.List.{[]}
 use native.Mathlib.Omega.{arith}
@@ -8,9 +8,6 @@ use borrow.Author.Tests.{leb-true, leb-false}
 use lib.Dec.{leb}
 use lib.ListN.{List·getD-eq-default}
 use Rattle.text.specs.Refshow.{all-words, words}
-
-pub down : (n k : ℕ) → n ≤ suc k → (n ≡ suc k → ⊥) → n ≤ k
-down n k h f = omega arith
 
 -- a number that is no refusal's has no words
 pub no-words : (n : ℕ) → (n ≤ 15 → n ≤ 0) → words n ≡ []

@@ -1,6 +1,6 @@
 -- What private functions promise.
 use mathlib.Core.Path.{_≡_}
-use Prim.Native.Nat.{ℕ, _+_, _*_, _≤_}
+use Prim.Native.Nat.{ℕ, suc, _+_, _*_, _≤_}
 use mathlib.Core.List.{List, _++_}
 use mathlib.Core.Option.{none}
 use lib.ListN.{length, take}
@@ -69,6 +69,10 @@ abbrev pub listed-answers : Snapshot → List Answer
 listed-answers s = answers-of (listing id-width s none (block-total s))
 
 -- ---- `refshow`
+
+-- a number is none of those from 1 to below k
+abbrev pub no-less : ℕ → ℕ → Type 0
+no-less k n = suc n ≤ k → n ≤ 0
 
 -- the longest words, with room to spare
 abbrev pub longest-words : ℕ

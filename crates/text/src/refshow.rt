@@ -29,10 +29,126 @@ ghost use Rattle.refs.specs.Means.{gated, trail-of};
 ghost use Rattle.text.specs.Text.{tab, newline, decimal};
 ghost use Rattle.text.specs.Reflist.{files-check};
 ghost use Rattle.text.specs.Refshow.{words, refused-line, region-word, followed-text, show-text, size-show};
-ghost use Rattle.text.specs.Promises.{Put, PutWithin, longest-words, longest-refused, longest-unfit, longest-show};
+ghost use Rattle.text.specs.Promises.{Put, PutWithin, no-less, longest-words, longest-refused, longest-unfit, longest-show};
 
 // Enough for every answer.
 pub const SHOW_SIZE: usize = 1024;
+
+// The same of the numbers from 13 on.
+fn put_words_from_13(out: &mut [u8], at: usize, number: u32) -> usize
+    requires { ⌜ no-less 13 number ⌝ }
+    requires { ⌜ at + longest-words ≤ length (now out) ⌝ }
+    ensures { λ r. ⌜ PutWithin longest-words (now (out .entry)) at (words number) (now (out .exit)) r ⌝ }
+{
+    match number {
+        13 => {
+            return put(
+                out,
+                at,
+                b"a symbolic reference leads to a name that is not there; look at the last reference reached, and its target",
+            );
+        }
+        14 => {
+            return put(
+                out,
+                at,
+                b"symbolic references lead back to a name that was passed; look at the last reference reached: the chain runs in a circle",
+            );
+        }
+        15 => {
+            return put(
+                out,
+                at,
+                b"a chain of symbolic references passes five names; look at the last reference reached: shorten the chain",
+            );
+        }
+        _ => {
+            return at;
+        }
+    }
+}
+
+// The same of the numbers from 9 on.
+fn put_words_from_9(out: &mut [u8], at: usize, number: u32) -> usize
+    requires { ⌜ no-less 9 number ⌝ }
+    requires { ⌜ at + longest-words ≤ length (now out) ⌝ }
+    ensures { λ r. ⌜ PutWithin longest-words (now (out .entry)) at (words number) (now (out .exit)) r ⌝ }
+{
+    match number {
+        9 => {
+            return put(
+                out,
+                at,
+                b"a reference's file was there and could not be read; look at the permissions of that file where the snapshot was made",
+            );
+        }
+        10 => {
+            return put(
+                out,
+                at,
+                b"a reference's file holds neither an id nor `ref: ` and a name; look at the file: it may be cut short or hold something else",
+            );
+        }
+        11 => {
+            return put(
+                out,
+                at,
+                b"a symbolic reference names something that is no reference's name; look at the file's text behind `ref: `",
+            );
+        }
+        12 => {
+            return put(
+                out,
+                at,
+                b"the repository keeps its references in another way (reftable); look at how it keeps them: this reader can't serve it",
+            );
+        }
+        _ => {
+            return put_words_from_13(out, at, number);
+        }
+    }
+}
+
+// The same of the numbers from 5 on.
+fn put_words_from_5(out: &mut [u8], at: usize, number: u32) -> usize
+    requires { ⌜ no-less 5 number ⌝ }
+    requires { ⌜ at + longest-words ≤ length (now out) ⌝ }
+    ensures { λ r. ⌜ PutWithin longest-words (now (out .entry)) at (words number) (now (out .exit)) r ⌝ }
+{
+    match number {
+        5 => {
+            return put(
+                out,
+                at,
+                b"a namespace grows to more than 250 bytes where it is written out; look at the namespace: a shorter one is needed",
+            );
+        }
+        6 => {
+            return put(
+                out,
+                at,
+                b"a block is damaged: its sum, its lengths or its kind are wrong; look at the block that is told, and make the snapshot anew",
+            );
+        }
+        7 => {
+            return put(
+                out,
+                at,
+                b"a block says that a directory or packed-refs could not be read; look at the disc and the permissions where the snapshot was made",
+            );
+        }
+        8 => {
+            return put(
+                out,
+                at,
+                b"a name is not above the one before it in its region; look at how the snapshot was made: names must rise",
+            );
+        }
+        _ => {
+            return put_words_from_9(out, at, number);
+        }
+    }
+}
 
 // What a number means and what to look at. The numbers of refusals are 1 to 15.
 fn put_words(out: &mut [u8], at: usize, number: u32) -> usize
@@ -68,85 +184,8 @@ fn put_words(out: &mut [u8], at: usize, number: u32) -> usize
                 b"a name or a namespace is not one that git allows; look at what was typed: two dots, a space, a slash at an end, `.lock`, and the like",
             );
         }
-        5 => {
-            return put(
-                out,
-                at,
-                b"a namespace grows to more than 250 bytes where it is written out; look at the namespace: a shorter one is needed",
-            );
-        }
-        6 => {
-            return put(
-                out,
-                at,
-                b"a block is damaged: its sum, its lengths or its kind are wrong; look at the block that is told, and make the snapshot anew",
-            );
-        }
-        7 => {
-            return put(
-                out,
-                at,
-                b"a block says that a directory or packed-refs could not be read; look at the disc and the permissions where the snapshot was made",
-            );
-        }
-        8 => {
-            return put(
-                out,
-                at,
-                b"a name is not above the one before it in its region; look at how the snapshot was made: names must rise",
-            );
-        }
-        9 => {
-            return put(
-                out,
-                at,
-                b"a reference's file was there and could not be read; look at the permissions of that file where the snapshot was made",
-            );
-        }
-        10 => {
-            return put(
-                out,
-                at,
-                b"a reference's file holds neither an id nor `ref: ` and a name; look at the file: it may be cut short or hold something else",
-            );
-        }
-        11 => {
-            return put(
-                out,
-                at,
-                b"a symbolic reference names something that is no reference's name; look at the file's text behind `ref: `",
-            );
-        }
-        12 => {
-            return put(
-                out,
-                at,
-                b"the repository keeps its references in another way (reftable); look at how it keeps them: this reader can't serve it",
-            );
-        }
-        13 => {
-            return put(
-                out,
-                at,
-                b"a symbolic reference leads to a name that is not there; look at the last reference reached, and its target",
-            );
-        }
-        14 => {
-            return put(
-                out,
-                at,
-                b"symbolic references lead back to a name that was passed; look at the last reference reached: the chain runs in a circle",
-            );
-        }
-        15 => {
-            return put(
-                out,
-                at,
-                b"a chain of symbolic references passes five names; look at the last reference reached: shorten the chain",
-            );
-        }
         _ => {
-            return at;
+            return put_words_from_5(out, at, number);
         }
     }
 }

@@ -1,0 +1,2 @@
+-- What loading a file answers.
+pub mod Loaded
