@@ -13,7 +13,7 @@ use Rattle.blocks.specs.Snapshot.{Snapshot, store, or-empty, size-check}
 use Rattle.blocks.proofs.Walks.{length-entries}
 use Rattle.refs.specs.Run.{start, is-nothing, step, run}
 use Rattle.refs.proofs.Moves.{remaining, run-ends}
-use Rattle.text.specs.Reflist.{block-total}
+use Rattle.text.specs.Reflist.{block-total, files-check, report, size-report}
 
 common-length : (width : ℕ) (c : Option Bytes) → length (or-empty (Option·map (entries width Region.common) c)) ≡ length (or-empty c) / block-size
 common-length width none = omega arith
@@ -24,3 +24,9 @@ unfolding block-total store
 all-handed-out width s e z =
     run-ends width s (block-total s) (start e) z
     (omega (arith, length-entries width Region.worktree (s .worktree), common-length width (s .common), length-entries width Region.packed (s .packed)))
+
+-- of files whose sizes are refused the program writes what `report` gives, whatever they hold
+pub sizes-suffice : (width : ℕ) (s : Snapshot) (k : ℕ) → files-check (length (s .worktree)) (length (or-empty (s .common))) (length (s .packed)) ≡ some k
+    → report width s ≡ size-report (files-check (length (s .worktree)) (length (or-empty (s .common))) (length (s .packed)))
+unfolding report
+sizes-suffice width s k h = rw h
