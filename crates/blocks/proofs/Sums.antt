@@ -1,39 +1,98 @@
--- The weighted sum by halves, and sums that are 0.
+-- The weighted sum by parts, and sums that are 0.
 use mathlib.Core.Path.{_≡_, refl, ap}
+use mathlib.Core.List.{[], _∷_}
 use mathlib.Core.Bool.{Bool, true, false, _&&_}
-use Prim.Native.Nat.{ℕ, _+_, _*_, _≤_, _<_}
-use native.Mathlib.Nat.{mul-le-mul-left, add-mul, add-assoc}
+use Prim.Native.Nat.{ℕ, suc, _+_, _*_, _-_, _≤_, _<_}
+use native.Mathlib.Nat.{mul-le-mul-left}
+use native.Mathlib.Numerals.{add-one}
 use native.Mathlib.Omega.{arith}
 use borrow.Author.Tests.{eq-eqb, ne-eqb, eqb-true, eqb-false}
 use lib.Dec.{eqb}
-use lib.ListN.{length, take, getD}
-use Rattle.names.specs.Bytes.{Bytes}
-use Rattle.blocks.specs.Block.{weighted}
-use Rattle.blocks.proofs.Walks.{weighted-more}
+use lib.ListN.{length, take, drop, getD, length-take, length-drop}
+use lib.Seq.{take-suc, take-add, drop-drop}
+use Rattle.names.specs.Bytes.{Bytes, every}
+use Rattle.names.specs.Name.{longest}
+use Rattle.names.proofs.Tests.{and-left, and-right}
+use Rattle.blocks.specs.Layout.{zero-at, name-at, content-at, sum-at}
+use Rattle.blocks.specs.Block.{between, name-length, content-length, block-name, block-content, is-zero, unused-zero, weighted}
+use Rattle.blocks.specs.Means.{name-within, content-within, Within}
+use Rattle.blocks.proofs.Walks.{weighted-append}
+use Rattle.blocks.proofs.Parts.{part-is, name-held, content-held}
 
--- the sum of the first n bytes
-abbrev pub sum-to : Bytes → ℕ → ℕ
-sum-to b n = weighted 0 (take n b)
-
-pub sum-none : (b : Bytes) → sum-to b 0 ≡ 0
+-- one byte more of a part
+pub weighted-more : (k : ℕ) (s : Bytes) (i : ℕ) → i < length s → weighted k (take (i + 1) s) ≡ weighted k (take i s) + (k + i + 1) * getD s i 0
 unfolding weighted
-sum-none b = refl
+weighted-more k s i h =
+    let l : k + length (take i s) ≡ k + i = omega (arith, length-take i s) in
+    rw (add-one, take-suc s i 0 h, weighted-append k (take i s) (getD s i 0 ∷ []), l) (omega arith)
 
--- a product of a half: weight and byte
-pub product-le : (h k x : ℕ) → k < h → x ≤ 255 → (k + 1) * x ≤ h * 255
-product-le h k x hk hx =
-    let a : (k + 1) * x ≤ (k + 1) * 255 = mul-le-mul-left (k + 1) hx in
+pub weighted-none : (k : ℕ) (s : Bytes) → weighted k (take 0 s) ≡ 0
+unfolding weighted
+weighted-none k s = refl
+
+-- a product: weight and byte
+pub product-le : (w x : ℕ) → w ≤ 509 → x ≤ 255 → w * x ≤ 509 * 255
+product-le w x hw hx =
+    let a : w * x ≤ w * 255 = mul-le-mul-left w hx in
     omega arith
 
--- byte k of the second half, of two of h bytes
-pub second-more : (b : Bytes) (h k : ℕ) → k + h < length b
-    → sum-to b (h + (k + 1)) ≡ sum-to b (h + k) + (k + 1) * getD b (k + h) 0 + h * getD b (k + h) 0
-second-more b h k l =
-    let e : h + (k + 1) ≡ h + k + 1 = omega arith in
-    let d : h + k ≡ k + h = omega arith in
-    let m : (k + h + 1) * getD b (k + h) 0 ≡ (k + 1) * getD b (k + h) 0 + h * getD b (k + h) 0 =
-    rw (← add-mul) (ap (λ (n : ℕ). n * getD b (k + h) 0) (omega arith)) in
-    rw (e, d, weighted-more b (k + h) l, m, add-assoc)
+-- bytes that are 0 add nothing
+zeros-sum : (k : ℕ) (s : Bytes) → every is-zero s ≡ true → weighted k s ≡ 0
+unfolding weighted every
+zeros-sum k [] h = refl
+zeros-sum k (x ∷ s) h =
+    let e = eqb-true x 0 (and-left (eqb x 0) _ h) in
+    rw (e, zeros-sum (suc k) s (and-right (eqb x 0) _ h)) (omega arith)
+
+-- from i to j, and from there to k
+sum-split : (b : Bytes) (i j k : ℕ) → i ≤ j → j ≤ k → j ≤ length b → weighted i (between b i k) ≡ weighted i (between b i j) + weighted j (between b j k)
+sum-split b i j k p q l =
+    let m : k - i ≡ (j - i) + (k - j) = omega arith in
+    let n : length (take (j - i) (drop i b)) ≡ j - i = simp (length-take, length-drop) (omega arith) in
+    let o : i + (j - i) ≡ j = omega arith in
+    rw (m, take-add (j - i) (k - j) (drop i b), drop-drop (j - i) i b, o, weighted-append i (take (j - i) (drop i b)) (take (k - j) (drop j b)), n, o)
+
+-- name and content as parts of the block
+module _ (b : Bytes) (w : Within b) (n : Bytes) where
+  pub name-short : n ≡ name-within b → length n ≤ longest
+  unfolding block-name
+  name-short e = rw (e, name-held b (w .name), length-take) (omega (arith, w .name))
+
+  pub content-short : n ≡ content-within b → length n ≤ longest
+  unfolding block-content
+  content-short e = rw (e, content-held b (w .content), length-take) (omega (arith, w .content))
+
+-- only what the header, the name and the content hold counts, where the rest is 0
+module _ (b : Bytes) (w : Within b) (z : unused-zero b ≡ true) where
+  zeros : every is-zero (between b zero-at name-at) ≡ true × every is-zero (between b (name-at + name-length b) content-at) ≡ true × every is-zero (between b (content-at + content-length b) sum-at) ≡ true
+  unfolding unused-zero
+  zeros =
+      let first = every is-zero (between b zero-at name-at) in
+      let second = every is-zero (between b (name-at + name-length b) content-at) in
+      let third = every is-zero (between b (content-at + content-length b) sum-at) in
+      let both = and-left (first && second) third z in
+      (and-left first second both, and-right first second both, and-right (first && second) third z)
+
+  pub used-sum : weighted 0 (take sum-at b) ≡ weighted 0 (take zero-at b) + weighted name-at (block-name b) + weighted content-at (block-content b)
+  unfolding block-name block-content
+  used-sum =
+      let n = name-at + name-length b in
+      let c = content-at + content-length b in
+      let long = w .size in
+      let header = sum-split b 0 zero-at sum-at (omega arith) (omega arith) (omega arith) in
+      let unused = sum-split b zero-at name-at sum-at (omega arith) (omega arith) (omega arith) in
+      let name = sum-split b name-at n sum-at (omega arith) (omega (arith, w .name)) (omega (arith, w .name)) in
+      let behind = sum-split b n content-at sum-at (omega (arith, w .name)) (omega arith) (omega arith) in
+      let content = sum-split b content-at c sum-at (omega arith) (omega (arith, w .content)) (omega (arith, w .content)) in
+      let none = zeros-sum zero-at _ (zeros .0) in
+      let none2 = zeros-sum n _ (zeros .1) in
+      let none3 = zeros-sum c _ (zeros .2) in
+      let name-is = ap (weighted name-at) (part-is b name-at (name-length b)) in
+      let content-is = ap (weighted content-at) (part-is b content-at (content-length b)) in
+      omega arith
+
+  pub used-within : (h x y : ℕ) (n t : Bytes) → h ≡ weighted 0 (take zero-at b) → n ≡ name-within b → t ≡ content-within b → x ≡ weighted name-at n → y ≡ weighted content-at t → h + x + y ≡ weighted 0 (take sum-at b)
+  used-within h x y n t header name content first second = rw (header, first, second, name, content, name-held b (w .name), content-held b (w .content), used-sum)
 
 -- a sum is 0 where both parts are
 pub eqb-sum : (a b : ℕ) → eqb (a + b) 0 ≡ (eqb a 0 && eqb b 0)

@@ -1,17 +1,19 @@
 // A block of 512 bytes: its fields, and when it is damaged.
 ghost use mathlib.Core.Path.{_≡_};
 ghost use Prim.Native.Nat.{_+_, _*_, _<_, _≤_};
-ghost use mathlib.Core.Bool.{_&&_, _||_, not};
+ghost use mathlib.Core.Bool.{true, _||_, not};
 ghost use mathlib.Core.Option.{some};
-ghost use lib.Dec.{leb, eqb};
+ghost use lib.Dec.{eqb};
 ghost use lib.ListN.{length, take};
 ghost use Rattle.names.specs.Bytes.{Bytes, if_then_else_, every};
-ghost use Rattle.blocks.specs.Layout.{block-size, sum-at};
+ghost use Rattle.names.specs.Name.{longest};
+ghost use Rattle.blocks.specs.Layout.{block-size, content-at, sum-at};
 ghost use Rattle.blocks.specs.Block.{is-zero, content-length, name-length, weighted, sum-right, lengths-right, unused-zero, kind-suits, record-right, shape-right, sound};
 ghost use Rattle.blocks.specs.Entry.{packed-record, peeled-in};
 ghost use Rattle.blocks.specs.Means.{id-width, stored-sum, region-of, block-at, block-count, name-within, content-within, Within, as-entry, taken-entry, name-in, content-in, entry-in, taken-in};
 use crate::parse::ID_WIDTH;
 use crate::parse::all_hex;
+use names::bytes::in_range;
 use names::name::LONGEST;
 use names::validate::well_formed;
 
@@ -54,9 +56,6 @@ pub enum Region {
     Packed,
 }
 
-// Half of the bytes that the sum covers.
-const HALF: usize = SUM_AT / 2;
-
 fn size(x: u8) -> usize
     ensures { λ r. ⌜ (r ≡ x) × (r ≤ 255) ⌝ }
 {
@@ -69,36 +68,35 @@ fn wide(x: u8) -> u32
     x as u32
 }
 
-fn half(x: u8) -> u16
-    ensures { λ r. ⌜ (r ≡ x) × (r ≤ 255) ⌝ }
-{
-    x as u16
-}
-
 fn full(x: u16) -> u32
     ensures { λ r. ⌜ r ≡ x ⌝ }
 {
     x as u32
 }
 
-// The weighted sum of a block. Both halves go by the weights 1 to 254, so that each product fits 16 bits and eight are made at once;
-// what the second half lacks, 254 times its plain sum, is added last.
+// The weighted sum of a part of a block whose first byte has the position k.
+fn part_sum(s: &[u8], k: u16) -> u32
+    requires { ⌜ (length (now s) ≤ longest) × (k ≤ content-at) ⌝ }
+    ensures { λ r. ⌜ (r ≡ weighted k (now (s .entry))) × (r ≤ 33000000) ⌝ }
+{
+    let mut sum: u32 = 0;
+    let mut i: usize = 0;
+    while i < s.len() {
+        let w = k + (i as u16) + 1;
+        sum += full(w) * wide(s[i]);
+        i += 1;
+    }
+    sum
+}
+
+// The weighted sum of a block. Bytes that are 0 add nothing to it, so only the header's first four, the name and the content are read.
 fn block_sum(b: &[u8]) -> u32
-    requires { ⌜ length (now b) ≡ block-size ⌝ }
+    requires { ⌜ Within (now b) × (unused-zero (now b) ≡ true) ⌝ }
     ensures { λ r. ⌜ r ≡ weighted 0 (take sum-at (now (b .entry))) ⌝ }
 {
-    let mut s: u32 = 0;
-    let mut t: u32 = 0;
-    let mut k: usize = 0;
-    while k < HALF {
-        let w = (k as u16) + 1;
-        let p = w * half(b[k]);
-        let q = w * half(b[k + HALF]);
-        s += full(p) + full(q);
-        t += wide(b[k + HALF]);
-        k += 1;
-    }
-    s + (HALF as u32) * t
+    part_sum(&b[0..ZERO_AT], 0)
+        + part_sum(name_part(b), NAME_AT as u16)
+        + part_sum(content_part(b), CONTENT_AT as u16)
 }
 
 // The sum that a block holds, low byte first.
@@ -112,24 +110,23 @@ fn stored_sum(b: &[u8]) -> u32
 }
 
 fn sum_right(b: &[u8]) -> bool
-    requires { ⌜ length (now b) ≡ block-size ⌝ }
+    requires { ⌜ Within (now b) × (unused-zero (now b) ≡ true) ⌝ }
     ensures { λ r. ⌜ r ≡ sum-right (now (b .entry)) ⌝ }
 {
     stored_sum(b) == block_sum(b)
 }
 
-// Whether every byte of a part of a block is 0. All are looked at, so that the loop has one way out.
+// Whether every byte is 0. All are looked at, so that the loop has one way out and many are compared at once.
 fn all_zero(s: &[u8]) -> bool
-    requires { ⌜ length (now s) ≤ block-size ⌝ }
     ensures { λ r. ⌜ r ≡ every is-zero (now (s .entry)) ⌝ }
 {
-    let mut sum: u32 = 0;
+    let mut zero = true;
     let mut i: usize = 0;
     while i < s.len() {
-        sum += wide(s[i]);
+        zero = zero & (s[i] == 0);
         i += 1;
     }
-    sum == 0
+    zero
 }
 
 fn name_len(b: &[u8]) -> usize
@@ -173,19 +170,13 @@ fn unused_zero(b: &[u8]) -> bool
     all_zero(&b[c..SUM_AT])
 }
 
-fn kind_between(kind: u8, first: u8, last: u8) -> bool
-    ensures { λ r. ⌜ r ≡ (leb first kind && leb kind last) ⌝ }
-{
-    if first <= kind { kind <= last } else { false }
-}
-
 fn kind_suits(region: Region, kind: u8) -> bool
     ensures { λ r. ⌜ r ≡ kind-suits (region-of region) kind ⌝ }
 {
     match region {
-        Region::Worktree => kind_between(kind, LOOSE, WALK_ERROR),
-        Region::Common => kind_between(kind, LOOSE, WALK_ERROR),
-        Region::Packed => kind_between(kind, RECORD, PACKED_ERROR),
+        Region::Worktree => in_range(kind, LOOSE, WALK_ERROR),
+        Region::Common => in_range(kind, LOOSE, WALK_ERROR),
+        Region::Packed => in_range(kind, RECORD, PACKED_ERROR),
     }
 }
 

@@ -4,31 +4,29 @@ ghost use Rattle.names.specs.Bytes.{every};
 ghost use lib.ListN.{drop, getD};
 ghost use Rattle.blocks.specs.Content.{is-hex, lower};
 ghost use Rattle.blocks.specs.Means.{id-width, id-in, begins-with-id};
+use names::bytes::in_range;
 
 // The digits of an id.
 pub const ID_WIDTH: usize = 40;
 
+// All three tests are made, with no branch, so that many digits are looked at together.
 pub fn is_hex_digit(b: u8) -> bool
     ensures { λ r. ⌜ r ≡ is-hex b ⌝ }
 {
-    match b {
-        b'0'..=b'9' | b'A'..=b'F' | b'a'..=b'f' => true,
-        _ => false,
-    }
+    in_range(b, b'0', b'9') | in_range(b, b'A', b'F') | in_range(b, b'a', b'f')
 }
 
 // Whether every byte is a digit.
 pub fn all_hex(s: &[u8]) -> bool
     ensures { λ r. ⌜ r ≡ every is-hex (now (s .entry)) ⌝ }
 {
+    let mut hex = true;
     let mut i: usize = 0;
     while i < s.len() {
-        if !is_hex_digit(s[i]) {
-            return false;
-        }
+        hex = hex & is_hex_digit(s[i]);
         i += 1;
     }
-    true
+    hex
 }
 
 // An id, its digits in lower case.

@@ -1,92 +1,112 @@
--- Numbers of calls, and counts of runs.
-use mathlib.Core.Path.{_≡_, refl}
-use Prim.Native.Nat.{ℕ, suc, _+_, _-_, _<_, _≤_}
-use mathlib.Core.Bool.{true, false, not}
-use mathlib.Core.Option.{none}
+-- What calls give: reports in outputs that have room, and outputs that are too short.
+use mathlib.Core.Path.{_≡_, refl, ap, sym, _∙_}
+use Prim.Native.Nat.{ℕ, _+_, _≤_, _<_}
 use native.Mathlib.Omega.{arith}
-use Rattle.blocks.specs.Snapshot.{Snapshot, is-there}
-use Rattle.blocks.specs.Means.{id-width}
-use Rattle.refs.specs.Answer.{Reference}
-use Rattle.refs.specs.Search.{Searched, Result, answers, turned-away, unfit}
-use Rattle.refs.specs.Run.{State, step, run, open-listing, listing}
-use Rattle.refs.specs.Means.{gated, answer-only, state-of, opened, opening-check, listed-with, step-of, reference-of}
-use Rattle.refs.specs.declared.overlay_iter.Listed.{Listed}
-use Rattle.refs.specs.declared.overlay_iter.Listed.the-variants as listed
-use Rattle.refs.specs.declared.overlay_iter.Stepped.{Stepped}
+use mathlib.Core.Bool.{true, false, false≢true}
+use mathlib.Core.List.{_++_}
+use mathlib.Core.Option.{Option, none, some}
+use lib.ListN.{length, drop, replicate, length-append, length-replicate}
+use lib.Dec.{leb}
+use borrow.Author.Tests.{le-leb, lt-leb}
+use Rattle.names.specs.Bytes.{Bytes}
+use Rattle.names.specs.Check.{Check, Checked, checked}
+use Rattle.blocks.specs.Fitness.{Flaw}
+use Rattle.blocks.specs.Snapshot.{Snapshot, store, size-check, store-flaw}
+use Rattle.blocks.specs.Means.{id-width, flaw-of, sizes-check}
+use Rattle.blocks.specs.declared.fitness.Sizes.{Sizes}
+use Rattle.blocks.specs.declared.fitness.Sizes.the-variants.{Right}
+use Rattle.blocks.specs.declared.fitness.Verdict.{Verdict}
+use Rattle.refs.specs.Answer.{Reference, Answer}
+use Rattle.refs.specs.Search.{Searched, Result, answers, turned-away, unfit, after-checks}
+use Rattle.refs.specs.Means.{gated, answer-only}
+use Rattle.refs.specs.Promises.{passed}
 use Rattle.refs.specs.declared.check.Gate.{Gate}
 use Rattle.refs.specs.declared.check.Gate.the-variants as gate
-use Rattle.refs.specs.declared.overlay_iter.Opened.{Opened}
-use Rattle.refs.proofs.ListOpens.{not-opened-answers, opened-answers}
-use Rattle.capi.specs.Numbers.{result-number, answer-number, find-number, gate-number, answer-weight, listed-weight, entry-count, listed-count}
+use Rattle.output.specs.Pasted.{pasted}
+use Rattle.output.proofs.Pastes.{pasted-front}
+use Rattle.capi.specs.Report.{Report, report, unfit-report, result-report, answer-report, searched-report, bare-report, fitness-report, check-number, checked-number, too-short}
+use Rattle.capi.specs.Layout.{word, padded, reference-size, reference-bytes, reference-field, report-size, report-bytes}
+use Rattle.capi.specs.Output.{number-given, output-given, Given}
+use Rattle.capi.specs.Promises.{Reported, turned-report, flaw-report}
+use Rattle.capi.proofs.Fields.{low-first-length, padded-length}
 
--- the number of a gated answer
-pub gated-number : {A : Type 0} (f : A → ℕ) (g : Gate) (a : A) → gate-number g (f a) ≡ result-number f (gated g a)
-gated-number f gate.Passed a = refl
-gated-number f gate.NotWhole a = refl
-gated-number f gate.TooMany a = refl
-gated-number f (gate.Refused why) a = refl
-gated-number f (gate.Unfit why r i) a = refl
+-- ---- room
 
--- how many candidates were tried changes no number
-pub only-answer : (r : Result Searched) → result-number answer-number (answer-only r) ≡ find-number r
+reference-length : (r : Option Reference) → length (reference-field r) ≡ reference-size
+unfolding reference-bytes
+reference-length none = length-replicate {A = ℕ} reference-size 0
+reference-length (some r) = simp (length-append, low-first-length, padded-length) refl
+
+-- a report has its size, whatever it reports
+report-length : (r : Report) → length (report-bytes r) ≡ report-size
+unfolding report-bytes
+report-length r = simp (length-append, low-first-length) (omega (arith, reference-length (r .reference)))
+
+-- what is written stands in front, where there is room
+pub report-front : (r : Report) (out after : Bytes) → report-size ≤ length out → after ≡ pasted out 0 (report-bytes r) → after ≡ report-bytes r ++ drop report-size out
+report-front r out after h e =
+    let size = report-length r in
+    e ∙ pasted-front out (report-bytes r) (rw size h) ∙ ap (λ (k : ℕ). report-bytes r ++ drop k out) size
+
+-- an output that is too short stays
+pub too-short-given : (r : Report) (out : Bytes) → length out < report-size → Given r out out too-short
+unfolding number-given output-given
+too-short-given r out h = let e : leb report-size (length out) ≡ false = lt-leb report-size (length out) h in record { number = rw e refl; output = rw e refl }
+
+-- one that is not has the report in front
+pub report-given : (r : Report) {q : Report} {out after : Bytes} {n : ℕ} → report-size ≤ length out → q ≡ r → Reported out q after n → Given r out after n
+unfolding number-given output-given
+report-given r {q} {out} {after} {n} h e p =
+    let room : leb report-size (length out) ≡ true = le-leb report-size (length out) h in
+    record { number = rw room (rw e at (p .number)); output = rw room (report-front r out after h (rw e at (p .bytes))) }
+
+-- ---- calls
+
+-- a call that a gate turned away
+pub turned : {A : Type 0} (f : A → Report) (g : Gate) (a : A) (x : Result A) → gated g a ≡ x → passed g ≡ false → turned-report g ≡ result-report f x
+turned f gate.Passed a x e h = absurd (false≢true (sym h))
+turned f gate.NotWhole a x e h = rw (← e) refl
+turned f gate.TooMany a x e h = rw (← e) refl
+turned f (gate.Refused why) a x e h = rw (← e) refl
+turned f (gate.Unfit why r i) a x e h = rw (← e) refl
+
+-- and one that it let pass
+pub let-pass : {A : Type 0} (f : A → Report) (g : Gate) (a : A) (x : Result A) → gated g a ≡ x → passed g ≡ true → f a ≡ result-report f x
+let-pass f gate.Passed a x e h = rw (← e) refl
+let-pass f gate.NotWhole a x e h = absurd (false≢true h)
+let-pass f gate.TooMany a x e h = absurd (false≢true h)
+let-pass f (gate.Refused why) a x e h = absurd (false≢true h)
+let-pass f (gate.Unfit why r i) a x e h = absurd (false≢true h)
+
+-- how many candidates were tried is not reported
+only-answer : (x : Result Searched) → result-report answer-report (answer-only x) ≡ result-report searched-report x
 only-answer (answers s) = refl
 only-answer (turned-away k) = refl
 only-answer (unfit f) = refl
 
--- ---- counts
+-- the same two of a search
+pub search-turned : (g : Gate) (a : Answer) (x : Result Searched) → gated g a ≡ answer-only x → passed g ≡ false → turned-report g ≡ result-report searched-report x
+search-turned g a x e h = turned answer-report g a (answer-only x) e h ∙ only-answer x
 
-pub weight-small : (a : Listed) → listed-weight a ≤ 1
-weight-small listed.NotWhole = omega arith
-weight-small listed.TooMany = omega arith
-weight-small listed.Entry = omega arith
-weight-small (listed.Refused why) = omega arith
-weight-small listed.Ended = omega arith
+pub search-passed : (g : Gate) (a : Answer) (x : Result Searched) → gated g a ≡ answer-only x → passed g ≡ true → answer-report a ≡ result-report searched-report x
+search-passed g a x e h = let-pass answer-report g a (answer-only x) e h ∙ only-answer x
 
-weight-is : (a : Listed) (r : Reference) → listed-weight a ≡ answer-weight (listed-with a r)
-weight-is listed.NotWhole r = refl
-weight-is listed.TooMany r = refl
-weight-is listed.Entry r = refl
-weight-is (listed.Refused why) r = refl
-weight-is listed.Ended r = refl
+flaw-is : (f : Option Flaw) → flaw-report f ≡ result-report bare-report (after-checks none f (report 0 none))
+flaw-is none = refl
+flaw-is (some f) = refl
 
--- how many references n steps from a state hand out
-abbrev pub counted : Snapshot → ℕ → State → ℕ
-counted s n st = entry-count (run id-width s n st .answers)
+-- fitness, by its checks
+pub fit-or-flaw : (s : Snapshot) (z : Sizes) (v : Verdict) → sizes-check z ≡ size-check s → z ≡ Right → flaw-of v ≡ store-flaw (store id-width s)
+    → flaw-report (flaw-of v) ≡ fitness-report s
+fit-or-flaw s z v h e k =
+    let right : size-check s ≡ none = sym h ∙ ap sizes-check e in
+    rw (right, ← k) (flaw-is (flaw-of v))
 
-count-done : (s : Snapshot) (st : State) → counted s 0 st ≡ 0
-unfolding run entry-count
-count-done s st = refl
+pub size-refused : (s : Snapshot) (z w : Sizes) (k : ℕ) → sizes-check z ≡ size-check s → z ≡ w → sizes-check w ≡ some k → report k none ≡ fitness-report s
+size-refused s z w k h e m = let wrong : size-check s ≡ some k = sym h ∙ ap sizes-check e ∙ m in rw wrong refl
 
-one-more : (s : Snapshot) (n : ℕ) (st : State) → counted s (suc n) st ≡ answer-weight (step id-width s st .answer) + counted s n (step id-width s st .next)
-unfolding run entry-count
-one-more s n st = refl
+-- ---- names
 
-pub no-step : (s : Snapshot) (n : ℕ) (st : State) → counted s n st ≡ 0 + counted s (n - 0) st
-no-step s n st = let left : n - 0 ≡ n = omega arith in rw left (omega arith)
-
-one-step : (s : Snapshot) (n i : ℕ) (st : State) (d : Stepped) → i < n → step-of d ≡ step id-width s st
-    → counted s (n - i) st ≡ listed-weight (d .answer) + counted s (n - (i + 1)) (state-of (d .next))
-one-step s n i st d h e =
-    let left : n - i ≡ suc (n - (i + 1)) = omega arith in
-    rw (left, one-more s (n - (i + 1)) st, ← e, weight-is (d .answer) (reference-of (d .reference)))
-
--- step i of n, of the weight w, after k references
-pub turned : (s : Snapshot) (n i k : ℕ) (st : State) (d : Stepped) (w : ℕ) → i < n → step-of d ≡ step id-width s st → w ≡ listed-weight (d .answer)
-    → k + counted s (n - i) st ≡ k + w + counted s (n - (i + 1)) (state-of (d .next))
-turned s n i k st d w h e v = omega (arith, one-step s n i st d h e)
-
-pub all-steps : (s : Snapshot) (n i k : ℕ) (st : State) → n ≤ i → k ≡ k + counted s (n - i) st
-all-steps s n i k st h =
-    let left : n - i ≡ 0 = omega arith in
-    let none-more : counted s (n - i) st ≡ 0 = rw left (count-done s st) in
-    omega (arith, none-more)
-
--- the opening
-pub not-opened-counts : (s : Snapshot) (n : ℕ) (o : Opened) → opened o ≡ open-listing s none → not (is-there (opening-check (o .opening))) ≡ false
-    → 0 ≡ listed-count (listing id-width s none n)
-unfolding entry-count
-not-opened-counts s n o e h = rw (not-opened-answers id-width s none n o e h)
-
-pub opened-counts : (s : Snapshot) (n : ℕ) (o : Opened) → opened o ≡ open-listing s none → not (is-there (opening-check (o .opening))) ≡ true
-    → counted s n (state-of (o .state)) ≡ listed-count (listing id-width s none n)
-opened-counts s n o e h = rw (opened-answers id-width s none n o e h)
+pub number-of : {A : Type 0} (c : Check) (a : A) → check-number c ≡ checked-number (checked c a)
+number-of none a = refl
+number-of (some k) a = refl

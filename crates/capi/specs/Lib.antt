@@ -1,2 +1,5 @@
 -- What the calls give.
-pub mod Numbers
+pub mod Report
+pub mod Layout
+pub mod Output
+pub mod Promises

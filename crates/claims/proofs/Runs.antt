@@ -15,6 +15,7 @@ use Rattle.refs.specs.Answer.{Answer, nothing, found, refused}
 use Rattle.refs.specs.View.{View, scope, view}
 use Rattle.refs.specs.Listing.{Positions, move}
 use Rattle.refs.specs.Run.{State, start, Step, is-nothing, moved, unless-ended, step, Run, run}
+use Rattle.refs.proofs.Positions.{step-expansion}
 use Rattle.claims.specs.Compared.{compared, Rising}
 use Rattle.claims.proofs.Tables.{Table, Does, ends, hands, Both, same-step, Clear, Bound, no-bound, rising-step}
 use Rattle.claims.proofs.Waits.{Faithful, peek-waits}
@@ -72,14 +73,6 @@ nothing-compared (found r) = refl
 nothing-compared (refused k) = refl
 
 module _ (width : ℕ) (s : Snapshot) (fit : Fit width s) where
-  pub step-expansion : (st : State) → step width s st .next .expansion ≡ st .expansion
-  unfolding step
-  step-expansion st = rw (fit .sizes) (go (st .ended) (moved st (move (view width (scope (st .expansion))) (store width s) (st .at))) refl)
-    where
-      go : (b : Bool) (d : Step) → d .next .expansion ≡ st .expansion → unless-ended b st d .next .expansion ≡ st .expansion
-      go true d e = refl
-      go false d e = e
-
   -- "its answer "ended", which alone makes a listing ended"
   pub step-ended : (st : State) → step width s st .next .ended ≡ is-nothing (step width s st .answer)
   unfolding step
@@ -126,7 +119,7 @@ module _ (width : ℕ) (e : Bytes) (Shown : Bytes → Bytes → Type 0) (honest 
       same-step Shown g (step-does s h st q) (step-does t h′ st′ q′) in
       let o : d .next .ended ≡ d′ .next .ended =
       step-ended width s h st ∙ sym (nothing-compared (d .answer)) ∙ ap is-nothing (b .answers) ∙ nothing-compared (d′ .answer) ∙ sym (step-ended width t h′ st′) in
-      let r = same-runs s t h h′ n (d .next) (d′ .next) (step-expansion width s h st ∙ q) (step-expansion width t h′ st′ ∙ q′) o (b .tables) in
+      let r = same-runs s t h h′ n (d .next) (d′ .next) (step-expansion width s st ∙ q) (step-expansion width t st′ ∙ q′) o (b .tables) in
       record { answers = ap₂ _∷_ (b .answers) (r .answers); ended = r .ended }
 
   module _ (rise : (x x′ y y′ : Bytes) → Shown x y → Shown x′ y′ → x ≺ x′ → y ≺ y′) where
@@ -136,7 +129,7 @@ module _ (width : ℕ) (e : Bytes) (Shown : Bytes → Bytes → Type 0) (honest 
     rising-run s h (suc n) st q b b′ m c =
         let d : Step = step width s st in
         rising-step Shown rise (d .answer) b b′ (state-table width e s st) (state-table width e s (d .next)) (run width s n (d .next) .answers) (step-does s h st q) m c
-        (rising-run s h n (d .next) (step-expansion width s h st ∙ q))
+        (rising-run s h n (d .next) (step-expansion width s st ∙ q))
 
     pub names-rise : (s : Snapshot) → Fit width s → (n : ℕ) → Rising none (run width s n (start e) .answers)
     names-rise s h n = rising-run s h n (start e) refl none none no-bound tt

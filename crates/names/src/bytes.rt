@@ -2,10 +2,14 @@
 // which are never joined: together they may be longer than a name.
 ghost use mathlib.Core.Path.{_≡_};
 ghost use mathlib.Core.List.{_++_};
-ghost use lib.Dec.{isEq};
+ghost use mathlib.Core.Bool.{_&&_};
+ghost use Prim.Native.Nat.{_+_, _≤_, _<_, compare};
+ghost use lib.Dec.{isEq, leb};
+ghost use lib.ListN.{length};
 ghost use Rattle.names.specs.Bytes.{order, same, starts-with, ends-with, contains, strip};
 ghost use Rattle.names.specs.Name.{directory};
 ghost use Rattle.names.specs.Means.{ordering};
+ghost use Rattle.output.specs.Pasted.{Put};
 
 pub enum Order {
     Less,
@@ -30,22 +34,46 @@ pub fn starts_with(s: &[u8], p: &[u8]) -> bool
     true
 }
 
+// Whether a byte is one of those from first to last, with no branch.
+pub fn in_range(b: u8, first: u8, last: u8) -> bool
+    ensures { λ r. ⌜ r ≡ (leb first b && leb b last) ⌝ }
+{
+    (first <= b) & (b <= last)
+}
+
+// The shorter of two lengths.
+fn shorter(x: usize, y: usize) -> usize
+    ensures { λ r. ⌜ (r ≤ x) × (r ≤ y) × (r < x → y ≤ r) ⌝ }
+{
+    if x < y { x } else { y }
+}
+
+fn byte_order(x: u8, y: u8) -> Order
+    ensures { λ r. ⌜ ordering r ≡ compare x y ⌝ }
+{
+    if x < y {
+        return Order::Less;
+    }
+    if y < x {
+        return Order::Greater;
+    }
+    Order::Equal
+}
+
 // The order of names: by bytes, a proper beginning first.
 pub fn compare(a: &[u8], b: &[u8]) -> Order
     ensures { λ r. ⌜ ordering r ≡ order (now (a .entry)) (now (b .entry)) ⌝ }
 {
+    let n = shorter(a.len(), b.len());
     let mut i = 0;
-    while i < a.len() {
-        if i >= b.len() {
-            return Order::Greater;
-        }
-        if a[i] < b[i] {
-            return Order::Less;
-        }
-        if a[i] > b[i] {
-            return Order::Greater;
+    while i < n {
+        if a[i] != b[i] {
+            return byte_order(a[i], b[i]);
         }
         i += 1;
+    }
+    if i < a.len() {
+        return Order::Greater;
     }
     if i < b.len() {
         return Order::Less;
@@ -67,6 +95,9 @@ fn is_equal(o: Order) -> bool
 pub fn equal(a: &[u8], b: &[u8]) -> bool
     ensures { λ r. ⌜ r ≡ same (now (a .entry)) (now (b .entry)) ⌝ }
 {
+    if a.len() != b.len() {
+        return false;
+    }
     is_equal(compare(a, b))
 }
 
@@ -104,6 +135,15 @@ pub fn without<'a>(s: &'a [u8], p: &[u8]) -> &'a [u8]
     }
     let k = p.len();
     &s[k..]
+}
+
+// Puts s behind the first `at` bytes of a buffer, and answers where it ends.
+pub(crate) fn put(out: &mut [u8], at: usize, s: &[u8]) -> usize
+    requires { ⌜ at + length (now s) ≤ length (now out) ⌝ }
+    ensures { λ r. ⌜ Put (now (out .entry)) at (now (s .entry)) (now (out .exit)) r ⌝ }
+{
+    output::put(out, at, s);
+    at + s.len()
 }
 
 // Does t begin with s and a slash?

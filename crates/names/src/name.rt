@@ -1,11 +1,13 @@
 // Names (name.rs): 250 bytes held in a struct, with a length.
 use crate::bytes::equal;
+use crate::bytes::put;
 use crate::bytes::starts_with;
 ghost use mathlib.Core.Path.{_≡_};
 ghost use mathlib.Core.List.{[], _++_};
 ghost use mathlib.Core.Bool.{true};
 ghost use mathlib.Core.Option.{none, some};
 ghost use Prim.Native.Nat.{_+_, _≤_};
+ghost use lib.Dec.{leb};
 ghost use lib.ListN.{length};
 ghost use Rattle.names.specs.Bytes.{bytes, if_then_else_, same};
 ghost use Rattle.names.specs.Check.{checked};
@@ -97,15 +99,8 @@ pub(crate) fn pushed(n: Name, s: &[u8]) -> Name
 {
     let k = size(n);
     let mut b = n.bytes;
-    let mut j = 0;
-    while j < s.len() {
-        b[k + j] = s[j];
-        j += 1;
-    }
-    Name {
-        bytes: b,
-        len: k + j,
-    }
+    let len = put(&mut b, k, s);
+    Name { bytes: b, len }
 }
 
 // The name with s behind it, where that fits.
@@ -121,12 +116,40 @@ pub fn join(n: Name, s: &[u8]) -> Made
     Made { ok: false, name: e }
 }
 
+// Whether a name holds three parts of these lengths.
+fn fit_together(x: usize, y: usize, z: usize) -> bool
+    ensures { λ r. ⌜ r ≡ leb (x + y + z) longest ⌝ }
+{
+    if LONGEST < x {
+        return false;
+    }
+    if LONGEST - x < y {
+        return false;
+    }
+    z <= LONGEST - x - y
+}
+
+// A name of three parts, where they fit: the bytes are put in place once.
+fn joined(a: &[u8], s: &[u8], t: &[u8]) -> Made
+    ensures { λ r. ⌜ made-name r ≡ if-fits (now (a .entry) ++ (now (s .entry) ++ now (t .entry))) ⌝ }
+{
+    if !fit_together(a.len(), s.len(), t.len()) {
+        let e = empty();
+        return Made { ok: false, name: e };
+    }
+    let mut b: [u8; LONGEST] = [0; LONGEST];
+    let i = put(&mut b, 0, a);
+    let j = put(&mut b, i, s);
+    let len = put(&mut b, j, t);
+    let name = Name { bytes: b, len };
+    Made { ok: true, name }
+}
+
 // A name of the bytes s, where they fit.
 pub fn from_bytes(s: &[u8]) -> Made
     ensures { λ r. ⌜ made-name r ≡ if-fits (now (s .entry)) ⌝ }
 {
-    let e = empty();
-    join(e, s)
+    joined(b"", b"", s)
 }
 
 // One name behind the other, where that fits.
@@ -194,50 +217,28 @@ pub fn looks_like_full_name(s: &[u8], pseudo: bool) -> bool
     is_pseudo_ref(s)
 }
 
-// What goes in front of a partial name: nothing, where it looks full.
-fn front(full: bool) -> Name
-    ensures { λ r. ⌜ content r ≡ (if full then [] else bytes "refs/") ⌝ }
-{
-    let e = empty();
-    if full {
-        return e;
-    }
-    pushed(e, b"refs/")
-}
-
 // The candidate for x with a directory in between, which ends with its slash or is empty.
 pub fn construct_full_name_ref(x: &[u8], inbetween: &[u8], pseudo: bool) -> Made
     ensures { λ r. ⌜ made-name r ≡ if-fits (full-name pseudo (now (inbetween .entry)) (now (x .entry))) ⌝ }
 {
-    let full = looks_like_full_name(x, pseudo);
-    let start = front(full);
-    let m = join(start, inbetween);
-    let ok = m.ok;
-    if !ok {
-        return m;
+    if looks_like_full_name(x, pseudo) {
+        return joined(b"", inbetween, x);
     }
-    let n = m.name;
-    join(n, x)
+    joined(b"refs/", inbetween, x)
 }
 
 // The last candidate for x: x/HEAD below remotes, itself a partial name that may look full.
 pub fn remote_head_candidate(x: &[u8]) -> Made
     ensures { λ r. ⌜ made-name r ≡ if-fits (full-name true (bytes "remotes/") (now (x .entry) ++ bytes "/HEAD")) ⌝ }
 {
-    let m = from_bytes(x);
-    let m_ok = m.ok;
-    if !m_ok {
-        return m;
-    }
-    let n = m.name;
-    let h = join(n, b"/HEAD");
-    let h_ok = h.ok;
-    if !h_ok {
+    let h = joined(b"", x, b"/HEAD");
+    let ok = h.ok;
+    if !ok {
         return h;
     }
-    let k = h.name;
-    let b = k.bytes;
-    let len = k.len;
+    let n = h.name;
+    let b = n.bytes;
+    let len = n.len;
     construct_full_name_ref(lend(&b, len), b"remotes/", true)
 }
 

@@ -3,15 +3,17 @@ use mathlib.Core.Path.{_≡_, refl, _∙_}
 use mathlib.Core.Bool.{Bool, true, false, not, true≢false, false≢true}
 use mathlib.Core.List.{[]}
 use mathlib.Core.Option.{Option, none, some}
-use Prim.Native.Nat.{ℕ}
+use Prim.Native.Nat.{ℕ, _≤_}
+use lib.ListN.{length}
 use native.Mathlib.Omega.{arith}
 use Rattle.names.specs.Bytes.{Bytes}
-use Rattle.names.specs.Check.{Check, gives, refuses, checked}
+use Rattle.names.specs.Name.{longest}
+use Rattle.names.specs.Check.{Check, gives, refuses, checked, _or-else_}
 use Rattle.names.specs.Namespace.{expand, expansion, names-check, expanded}
-use Rattle.names.proofs.Rows.{names-none, expanded-is}
+use Rattle.names.proofs.Rows.{names-none, expanded-is, expansion-fits}
 use Rattle.blocks.specs.Means.{if-there}
-use Rattle.blocks.specs.Snapshot.{Snapshot, is-there}
-use Rattle.refs.specs.Run.{start, run, open-listing, run-opened, listing, answers-of}
+use Rattle.blocks.specs.Snapshot.{Snapshot, is-there, size-check}
+use Rattle.refs.specs.Run.{State, start, run, open-listing, run-opened, listing, answers-of}
 use Rattle.refs.specs.Means.{state-of, opening-check, opened}
 use Rattle.refs.specs.declared.overlay_iter.Opening.{Opening}
 use Rattle.refs.specs.declared.overlay_iter.Opening.the-variants as opening
@@ -62,3 +64,18 @@ opened-answers width s namespace n o e h = rw (← e) (go (o .opening) h)
     go opening.NotWhole z = cc
     go opening.TooMany z = cc
     go (opening.Refused why) z = cc
+
+-- ---- the state of an opening
+
+-- a fresh one, whose expansion is no longer than a name
+pub opened-start : (s : Snapshot) (namespace : Option Bytes) (st : State) → open-listing s namespace ≡ gives st → (st ≡ start (expansion namespace)) × (length (expansion namespace) ≤ longest)
+unfolding open-listing
+opened-start s namespace st e = sized (size-check s) e
+  where
+    named : (k : Check) → names-check none namespace ≡ k → checked k (start (expansion namespace)) ≡ gives st → (st ≡ start (expansion namespace)) × (length (expansion namespace) ≤ longest)
+    named none n h = (cc, expansion-fits namespace n)
+    named (some k) n h = let z : _≡_ {A = ℕ} 0 1 = cc in absurd (omega arith)
+
+    sized : (c : Check) → checked (c or-else names-check none namespace) (start (expansion namespace)) ≡ gives st → (st ≡ start (expansion namespace)) × (length (expansion namespace) ≤ longest)
+    sized none h = named (names-check none namespace) refl h
+    sized (some k) h = let z : _≡_ {A = ℕ} 0 1 = cc in absurd (omega arith)

@@ -1,7 +1,7 @@
 -- One candidate: from what the parts of a search promise to the definition's answer.
 use mathlib.Core.Path.{_≡_, refl, sym, ap, _∙_}
 use Prim.Native.Nat.{ℕ, _<_}
-use mathlib.Core.List.{List, _++_}
+use mathlib.Core.List.{_++_}
 use mathlib.Core.Bool.{Bool, true, false}
 use mathlib.Core.Option.{Option, none, some, Option·map}
 use Rattle.names.specs.Bytes.{Bytes, if_then_else_}
@@ -14,7 +14,7 @@ use Rattle.blocks.proofs.Entries.{entry-there}
 use Rattle.refs.specs.Answer.{Answer, nothing, says, strip-answer, block-of}
 use Rattle.blocks.specs.Snapshot.{Store, store, common-or, region-at}
 use Rattle.refs.specs.Search.{clashes, deciding, file-of, record-of, entry-for, answer-of}
-use Rattle.refs.specs.Promises.{Flawless, FitRegions, IndexOf, ClashOf, says-at, in-common, candidate-answer}
+use Rattle.refs.specs.Promises.{Flawless, FitRegions, IndexOf, ClashOf, IndexAnswer, says-at, in-common, candidate-answer}
 use Rattle.refs.specs.declared.find.Index.{Index}
 use Rattle.refs.specs.declared.find.Index.the-variants.{At, Nothing}
 use Rattle.refs.proofs.Regions.{block-named}
@@ -56,16 +56,21 @@ module _ (s p : Bytes) (f : Flawless Region.packed s) (i : Index) (h : IndexOf p
 
 -- ---- sought packed or not
 
-module _ (e c : Bytes) (s : Store) where
-  pub unsought : (seek : Bool) (q : Option Bytes) → seek ≡ false → nothing ≡ answer-of id-width e c (record-of e s seek q)
-  unsought seek q h = rw h
+module _ (e c : Bytes) (s : Store) (a : Answer) where
+  pub unsought : (seek : Bool) (q : Option Bytes) → seek ≡ false → a ≡ nothing → a ≡ answer-of id-width e c (record-of e s seek q)
+  unsought seek q h g = g ∙ rw h
 
-  pub never-sought : (seek : Bool) → nothing ≡ answer-of id-width e c (record-of e s seek none)
-  never-sought true = refl
-  never-sought false = refl
+  pub never-sought : (seek : Bool) → a ≡ nothing → a ≡ answer-of id-width e c (record-of e s seek none)
+  never-sought true g = g
+  never-sought false g = g
 
-  pub sought : (seek : Bool) (q : Bytes) (l : List Entry) → seek ≡ true → s .packed ≡ l → (a : Answer) → a ≡ answer-of id-width e c (block-of (e ++ q) l) → a ≡ answer-of id-width e c (record-of e s seek (some q))
-  sought seek q l h p a g = g ∙ rw (h, p)
+  pub sought : (p : Bytes) → Flawless Region.packed p → (seek : Bool) (q : Bytes) (i : Index) → IndexOf (e ++ q) p i → seek ≡ true → s .packed ≡ entries id-width Region.packed p
+      → IndexAnswer e p i a → a ≡ answer-of id-width e c (record-of e s seek (some q))
+  sought p f seek q i h t l g = go i refl g ∙ rw (t, l)
+    where
+      go : (j : Index) → i ≡ j → IndexAnswer e p j a → a ≡ answer-of id-width e c (block-of (e ++ q) (entries id-width Region.packed p))
+      go (At k) j g = record-answer p (e ++ q) f i h e (g .name) k j a (g .is) c
+      go Nothing j g = g ∙ rw (found-none Region.packed p (e ++ q) f i h j)
 
 -- ---- the routed region
 

@@ -2,26 +2,26 @@
 use mathlib.Core.Path.{_≡_, refl, sym, _∙_}
 use Prim.Native.Nat.{ℕ, _≤_}
 use native.Mathlib.Omega.{arith}
-use mathlib.Core.List.{[]}
+use mathlib.Core.List.{[], _∷_}
 use mathlib.Core.Bool.{Bool, true, false}
 use mathlib.Core.Option.{Option, none, some}
 use borrow.Author.Tests.{leb-true, le-leb}
 use lib.Dec.{leb, ltb}
 use lib.ListN.{length, take, drop, length-take}
-use Rattle.names.specs.Bytes.{Bytes, if_then_else_, strip}
+use Rattle.names.specs.Bytes.{Bytes, if_then_else_, starts-with, strip}
 use Rattle.names.specs.Means.{content, made-name, if-fits}
 use Rattle.names.specs.declared.name.Made.{Made}
 use Rattle.names.proofs.Held.{made-ok, made-is}
 use Rattle.names.specs.Name.{longest}
 use Rattle.blocks.specs.Layout.{name-at, content-at, longest-content}
 use Rattle.blocks.specs.Block.{Region, name-length, content-length, block-name, block-content}
-use Rattle.blocks.specs.Content.{object}
+use Rattle.blocks.specs.Content.{Target, object, symbolic}
 use Rattle.blocks.specs.Entry.{packed-record}
 use Rattle.blocks.specs.Means.{id-width, block-count, block-at, name-in, content-in, entry-in, as-entry, id-in}
 use Rattle.blocks.specs.declared.block.EntryKind.{EntryKind}
 use Rattle.blocks.specs.declared.block.EntryKind.the-variants.{Record, PeeledRecord}
 use Rattle.blocks.proofs.Sound.{Ids, record-ids, target-id, peeled-id}
-use Rattle.refs.specs.Answer.{Answer, found, strip-target, strip-reference, strip-answer}
+use Rattle.refs.specs.Answer.{Answer, nothing, found, refused, strip-target, strip-reference, strip-answer}
 use Rattle.refs.specs.declared.raw.Kind.{Kind}
 use Rattle.refs.specs.declared.raw.Kind.the-variants.{Object, Symbolic}
 use Rattle.refs.specs.declared.raw.Outcome.{Outcome}
@@ -89,3 +89,16 @@ module _ (e : Bytes) (r q : code.Reference) where
   strip-outcome outcome.Nothing h = refl
   strip-outcome outcome.Found h = rw h
   strip-outcome (outcome.Refused why) h = refl
+
+-- nothing is stripped without a namespace
+target-stays : (t : Target) → t ≡ strip-target [] t
+unfolding strip starts-with
+target-stays (object id) = refl
+target-stays (symbolic n) = refl
+
+pub answer-stays : (e : Bytes) → length e ≡ 0 → (a : Answer) → a ≡ strip-answer e a
+unfolding strip starts-with
+answer-stays [] h nothing = refl
+answer-stays [] h (found r) = rw (← target-stays (r .target))
+answer-stays [] h (refused k) = refl
+answer-stays (b ∷ e) h a = absurd (omega arith)

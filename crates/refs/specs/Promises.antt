@@ -1,7 +1,7 @@
 -- What the private functions of search and following promise. Nobody has to believe these: the promises of the public
 -- functions do not speak of them.
 use mathlib.Core.Path.{_≡_}
-use mathlib.Core.List.{List, [], _∷_, _++_}
+use mathlib.Core.List.{List, [], _∷_}
 use mathlib.Core.Bool.{Bool, true, false}
 use mathlib.Core.Option.{Option, none, some}
 use Prim.Native.Nat.{ℕ, _<_}
@@ -22,8 +22,9 @@ use Rattle.blocks.specs.declared.block.EntryKind.{EntryKind}
 use Rattle.refs.specs.Answer.{Reference, Answer, nothing, found, refused, says, strip-answer, block-of}
 use Rattle.refs.specs.Search.{clashes, record-of, entry-for, answer-of, lookup, first-answer, search}
 use Rattle.refs.specs.Follow.{Followed, on-target, on-answer, max-ref-depth, follow-from, following}
-use Rattle.refs.specs.Means.{answered, followed-of, reference-of}
+use Rattle.refs.specs.Means.{answer-with, answered, followed-of, reference-of}
 use Rattle.refs.specs.declared.raw.Answered.{Answered}
+use Rattle.refs.specs.declared.raw.Outcome.{Outcome}
 use Rattle.refs.specs.declared.find.Index.{Index}
 use Rattle.refs.specs.declared.find.Index.the-variants.{At, Nothing}
 use Rattle.refs.specs.declared.check.NamesGate.{NamesGate}
@@ -87,13 +88,20 @@ EntryAnswer kind n name content a = (r : Region) (s : Bytes) (k : ℕ) → Block
 abbrev pub BlockAnswer : Bytes → Bytes → Bytes → ℕ → Answered → Type 0
 BlockAnswer e n s k a = (r : Region) → Flawless r s → answered a ≡ strip-answer e (says-at n (entry-in id-width r s k))
 
--- the answer is that of the record with the name e, n, whatever the candidate's name
-abbrev pub RecordAnswer : Bytes → Bytes → Bytes → Answered → Type 0
-RecordAnswer e n p a = (c : Bytes) → answered a ≡ answer-of id-width e c (block-of (e ++ n) (entries id-width Region.packed p))
+-- the answer is that of block k of the packed region p, under some name
+pub record AnswerAt (e p : Bytes) (k : ℕ) (a : Answer) : Type 0 where
+  pub name : Bytes
+  pub is : a ≡ strip-answer e (says-at name (entry-in id-width Region.packed p k))
 
--- the answer is that of the record of the candidate c
-abbrev pub PackedAnswer : Bytes → Bytes → Bool → Bytes → Answered → Type 0
-PackedAnswer e c seek p a = (s : Store) → s .packed ≡ entries id-width Region.packed p → answered a ≡ answer-of id-width e c (record-of e s seek (packed-name c))
+-- the answer of an index into the packed region p
+abbrev pub IndexAnswer : Bytes → Bytes → Index → Answer → Type 0
+IndexAnswer e p (At k) a = AnswerAt e p k a
+IndexAnswer e p Nothing a = a ≡ nothing
+
+-- the index is that of the record of the candidate c: its answer is the candidate's
+abbrev pub PackedIndex : Bytes → Bytes → Bool → Bytes → Index → Type 0
+PackedIndex e c seek p i =
+    (s : Store) → s .packed ≡ entries id-width Region.packed p → (a : Answer) → IndexAnswer e p i a → a ≡ answer-of id-width e c (record-of e s seek (packed-name c))
 
 -- search reads the common region: a shared name, where there is one
 abbrev pub in-common : Base → Bool → Bool
@@ -150,6 +158,10 @@ abbrev pub is-answer : Answer → Bool
 is-answer nothing = false
 is-answer (found r) = true
 is-answer (refused k) = true
+
+-- b is whether the outcome is an answer, whatever the reference
+abbrev pub Answers : Outcome → Bool → Type 0
+Answers o b = (r : Reference) → b ≡ is-answer (answer-with o r)
 
 -- what a search answers
 abbrev pub search-answer : Bytes → Snapshot → Bytes → Answer

@@ -204,7 +204,7 @@ pub(crate) fn check_call(
     }
 }
 
-pub(crate) fn is_passed(gate: Gate) -> bool
+pub fn is_passed(gate: Gate) -> bool
     ensures { λ r. ⌜ r ≡ passed gate ⌝ }
 {
     match gate {

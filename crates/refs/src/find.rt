@@ -10,7 +10,7 @@ ghost use Rattle.blocks.specs.Means.{id-width, content-in, if-there, snapshot-o
 ghost use Rattle.blocks.specs.Block.{Region};
 ghost use Rattle.refs.specs.Search.{find};
 ghost use Rattle.refs.specs.Means.{gated, answer-only, answered};
-ghost use Rattle.refs.specs.Promises.{Flawless, FitRegions, IndexOf, ClashOf, BlockAnswer, PackedAnswer, RecordAnswer, in-common, candidate-answer, between, is-answer, MadeAnswer, looked-up, pass-names, PassAnswer, last-answer, search-answer};
+ghost use Rattle.refs.specs.Promises.{Flawless, FitRegions, IndexOf, ClashOf, BlockAnswer, PackedIndex, in-common, candidate-answer, between, Answers, MadeAnswer, looked-up, pass-names, PassAnswer, last-answer, search-answer};
 use crate::check::Gate;
 use crate::check::check_call;
 use crate::check::is_passed;
@@ -100,32 +100,17 @@ fn block_answer(s: &[u8], k: usize, n: Name, file: &[u8], e: &[u8]) -> Answered
 }
 
 // The packed record of a candidate s, where it is sought packed.
-fn packed_lookup(packed: &[u8], e: &[u8], s: &[u8], seek: bool) -> Answered
+fn packed_index(packed: &[u8], e: &[u8], s: &[u8], seek: bool) -> Index
     requires { ⌜ Flawless Region.packed (now packed) ⌝ }
-    ensures { λ a. ⌜ PackedAnswer (now (e .entry)) (now (s .entry)) seek (now (packed .entry)) a ⌝ }
+    ensures { λ i. ⌜ PackedIndex (now (e .entry)) (now (s .entry)) seek (now (packed .entry)) i ⌝ }
 {
     if !seek {
-        return not_found();
+        return Index::Nothing;
     }
     let name = transform_full_name_for_lookup(s);
     match name {
-        Packed::Never => not_found(),
-        Packed::From(off) => record_lookup(packed, e, tail(s, off)),
-    }
-}
-
-// The packed record of the name e, n, stripped.
-fn record_lookup(packed: &[u8], e: &[u8], n: &[u8]) -> Answered
-    requires { ⌜ Flawless Region.packed (now packed) ⌝ }
-    ensures { λ a. ⌜ RecordAnswer (now (e .entry)) (now (n .entry)) (now (packed .entry)) a ⌝ }
-{
-    let i = block_of(packed, e, n);
-    match i {
-        Index::At(k) => {
-            let own = name_at(packed, k);
-            block_answer(packed, k, own, block_content(packed, k), e)
-        }
-        Index::Nothing => not_found(),
+        Packed::Never => Index::Nothing,
+        Packed::From(off) => block_of(packed, e, tail(s, off)),
     }
 }
 
@@ -177,7 +162,16 @@ fn lookup<'a>(
     let i = block_of(region, e, path);
     match i {
         Index::At(k) => block_answer(region, k, c, content_of(worktree, common, in_common, k), e),
-        Index::Nothing => packed_lookup(packed, e, s, seek),
+        Index::Nothing => {
+            let j = packed_index(packed, e, s, seek);
+            match j {
+                Index::At(k) => {
+                    let own = name_at(packed, k);
+                    block_answer(packed, k, own, block_content(packed, k), e)
+                }
+                Index::Nothing => not_found(),
+            }
+        }
     }
 }
 
@@ -215,10 +209,9 @@ fn candidate_for(x: &[u8], d: usize, pseudo: bool) -> Made
 }
 
 // Whether there is an answer.
-fn has_answer(a: Answered) -> bool
-    ensures { λ r. ⌜ r ≡ is-answer (answered a) ⌝ }
+fn has_answer(outcome: Outcome) -> bool
+    ensures { λ r. ⌜ Answers outcome r ⌝ }
 {
-    let outcome = a.outcome;
     match outcome {
         Outcome::Nothing => false,
         Outcome::Found => true,
@@ -261,7 +254,8 @@ fn one_pass<'a>(
     let mut d: usize = 0;
     'try_directories: while d < 4 {
         let a = try_directory(worktree, common, has_common, packed, e, x, d, pseudo);
-        if has_answer(a) {
+        let outcome = a.outcome;
+        if has_answer(outcome) {
             return a;
         }
         if one {
@@ -306,14 +300,16 @@ pub(crate) fn find_one_with_verified_input<'a>(
 {
     let pseudo = is_pseudo_ref(x);
     let a = one_pass(worktree, common, has_common, packed, e, x, true, pseudo);
-    if has_answer(a) {
+    let first = a.outcome;
+    if has_answer(first) {
         return a;
     }
     if !pseudo {
         return try_remote_head(worktree, common, has_common, packed, e, x);
     }
     let b = one_pass(worktree, common, has_common, packed, e, x, false, false);
-    if has_answer(b) {
+    let second = b.outcome;
+    if has_answer(second) {
         return b;
     }
     try_remote_head(worktree, common, has_common, packed, e, x)

@@ -231,10 +231,13 @@ fn strip_reference(r: Reference, e: &[u8]) -> Reference
     }
 }
 
-// The same for an answer.
+// The same for an answer. Without a namespace it stays as it is.
 pub(crate) fn strip_answer(a: Answered, e: &[u8]) -> Answered
     ensures { λ q. ⌜ answered q ≡ strip-answer (now (e .entry)) (answered a) ⌝ }
 {
+    if e.len() == 0 {
+        return a;
+    }
     let r = a.reference;
     let reference = strip_reference(r, e);
     let outcome = a.outcome;

@@ -3,17 +3,12 @@ use mathlib.Core.Path.{_≡_, refl, ap, sym, _∙_}
 use Prim.Native.Nat.{ℕ, _+_, _≤_}
 use native.Mathlib.Omega.{arith}
 use mathlib.Core.List.{[], _++_, append-assoc, append-nil}
-use lib.ListN.{length, take, length-take, length-drop, length-append}
+use lib.ListN.{length, take, length-drop, length-append}
 use Rattle.names.specs.Bytes.{Bytes}
 use Rattle.names.specs.Name.{longest}
 use Rattle.names.specs.Category.{short-name}
-use Rattle.names.specs.Means.{held}
-use Rattle.text.specs.Promises.{Put, PutWithin}
-
--- what a name lends is no longer than a name
-pub held-small : (s b : Bytes) (l : ℕ) → s ≡ held b l → length b ≡ longest → length s ≤ longest
-unfolding held
-held-small s b l e h = rw e (simp length-take (omega (arith, h)))
+use Rattle.output.specs.Pasted.{Put}
+use Rattle.text.specs.Promises.{PutWithin}
 
 -- one piece behind the other is both
 pub put-then : {b m a s t : Bytes} {at i j : ℕ} → Put b at s m i → Put m i t a j → Put b at (s ++ t) a j

@@ -1,19 +1,16 @@
 -- The lines of a run, step by step.
 use mathlib.Core.Path.{_≡_, refl, ap, sym, _∙_}
 use Prim.Native.Nat.{ℕ, suc, _+_, _-_, _*_, _/_, _<_, _≤_}
-use mathlib.Core.Bool.{Bool, true, false, _&&_}
-use mathlib.Core.Option.{none, some}
+use mathlib.Core.Bool.{Bool}
+use mathlib.Core.Option.{none}
 use mathlib.Core.List.{List, [], _++_, append-assoc, append-nil}
 use native.Mathlib.Omega.{arith}
-use borrow.Author.Tests.{leb-true}
 use lib.ListN.{length, take, length-take, length-append}
 use Rattle.names.specs.Bytes.{Bytes, bytes}
-use Rattle.names.proofs.Tests.{none≢some}
-use Rattle.names.specs.Check.{unless, _or-else_}
 use Rattle.blocks.specs.Layout.{block-size}
-use Rattle.blocks.specs.Fitness.{whole, not-too-many}
 use Rattle.blocks.specs.Snapshot.{Snapshot, or-empty, sizes-within}
 use Rattle.blocks.specs.Means.{id-width, if-there, snapshot-of}
+use Rattle.blocks.proofs.Sizes.{sizes-right}
 use Rattle.refs.specs.Run.{State, step, run}
 use Rattle.refs.specs.Means.{state-of, reference-of, listed-with, step-of}
 use Rattle.refs.specs.Answer.{Reference, Answer}
@@ -22,7 +19,8 @@ use Rattle.refs.specs.declared.overlay_iter.Listed.the-variants as listed
 use Rattle.refs.specs.declared.overlay_iter.Stepped.{Stepped}
 use Rattle.text.specs.Text.{tab, newline, decimal}
 use Rattle.text.specs.Reflist.{most-listed, answer-line, answer-lines, line-weight, line-count, end-line, listed-text, block-total}
-use Rattle.text.specs.Promises.{Put, PutLines, longest-line, most-steps, listed-weight}
+use Rattle.output.specs.Pasted.{Put}
+use Rattle.text.specs.Promises.{PutLines, longest-line, most-steps, listed-weight}
 use Rattle.text.proofs.Puts.{put-then}
 
 -- what n steps from a state give
@@ -133,17 +131,7 @@ none-listed = refl
 -- files of right sizes have at most 120 blocks
 pub few-blocks : (w c p : Bytes) (has : Bool) (e : Bytes) → e ≡ or-empty (if-there has c) → sizes-within most-listed (length w) (length e) (length p) ≡ none
     → block-total (snapshot-of w (if-there has c) p) ≤ most-steps
-unfolding block-total sizes-within
-few-blocks w c p has e q h = rw (← q) (go (whole (length w) && whole (length e) && whole (length p)) (fit w) (fit e) (fit p) (leb-true _ _) (leb-true _ _) (leb-true _ _) h)
-  where
-    fit : Bytes → Bool
-    fit s = not-too-many most-listed (length s)
-
-    go : (b x y z : Bool) → (x ≡ true → length w ≤ most-listed * block-size) → (y ≡ true → length e ≤ most-listed * block-size) → (z ≡ true → length p ≤ most-listed * block-size)
-        → (unless 1 b or-else unless 2 (x && y && z)) ≡ none
-        → length w / block-size + length e / block-size + length p / block-size ≤ most-steps
-    go true true true true f g k r = omega (arith, f refl, g refl, k refl)
-    go true true true false f g k r = absurd (none≢some (sym r))
-    go true true false z f g k r = absurd (none≢some (sym r))
-    go true false y z f g k r = absurd (none≢some (sym r))
-    go false x y z f g k r = absurd (none≢some (sym r))
+unfolding block-total
+few-blocks w c p has e q h =
+    let right = sizes-right most-listed (length w) (length e) (length p) h in
+    rw (← q) (omega (arith, right .worktree, right .common, right .packed))

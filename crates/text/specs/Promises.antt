@@ -4,6 +4,7 @@ use Prim.Native.Nat.{ℕ, suc, _+_, _*_, _≤_}
 use mathlib.Core.List.{List, _++_}
 use mathlib.Core.Option.{none}
 use lib.ListN.{length, take}
+use Rattle.output.specs.Pasted.{Put}
 use Rattle.names.specs.Bytes.{Bytes}
 use Rattle.names.specs.Name.{longest}
 use Rattle.blocks.specs.Snapshot.{Snapshot}
@@ -14,13 +15,7 @@ use Rattle.refs.specs.declared.overlay_iter.Listed.{Listed}
 use Rattle.refs.specs.declared.overlay_iter.Listed.the-variants as listed
 use Rattle.text.specs.Reflist.{most-listed, answer-lines, line-count, block-total}
 
--- s was put into a buffer behind its first `at` bytes, and ends at r
-pub record Put (before : Bytes) (at : ℕ) (s after : Bytes) (r : ℕ) : Type 0 where
-  pub text : take r after ≡ take at before ++ s
-  pub ends : r ≡ at + length s
-  pub size : length after ≡ length before
-
--- the same, of a piece of at most so many bytes
+-- a piece of at most so many bytes was put into a buffer
 pub record PutWithin (most : ℕ) (before : Bytes) (at : ℕ) (s after : Bytes) (r : ℕ) : Type 0 where
   pub put : Put before at s after r
   pub within : r ≤ at + most

@@ -8,19 +8,16 @@ ghost use Rattle.names.specs.Name.{longest};
 ghost use Rattle.names.specs.Means.{content};
 ghost use Rattle.blocks.specs.Means.{id-width};
 ghost use Rattle.text.specs.Text.{decimal};
-ghost use Rattle.text.specs.Promises.{Put, PutWithin, most-digits};
+ghost use Rattle.output.specs.Pasted.{Put};
+ghost use Rattle.text.specs.Promises.{PutWithin, most-digits};
 
 // Puts s behind the first `at` bytes, and answers where it ends.
 pub(crate) fn put(out: &mut [u8], at: usize, s: &[u8]) -> usize
     requires { ⌜ at + length (now s) ≤ length (now out) ⌝ }
     ensures { λ r. ⌜ Put (now (out .entry)) at (now (s .entry)) (now (out .exit)) r ⌝ }
 {
-    let mut i: usize = 0;
-    while i < s.len() {
-        out[at + i] = s[i];
-        i += 1;
-    }
-    at + i
+    output::put(out, at, s);
+    at + s.len()
 }
 
 pub(crate) fn put_name(out: &mut [u8], at: usize, n: Name) -> usize

@@ -30,7 +30,8 @@ ghost use Rattle.refs.specs.Run.{run};
 ghost use Rattle.refs.specs.Means.{reference-of, state-of, listed-with};
 ghost use Rattle.text.specs.Text.{newline, decimal};
 ghost use Rattle.text.specs.Reflist.{heading, target-field, entry-line, error-line, answer-line, block-total, listed-text, files-check, report, size-report};
-ghost use Rattle.text.specs.Promises.{Put, PutWithin, most-digits, listed-weight, PutLines, longest-target, longest-line, most-steps, longest-listing, longest-report, listed-answers};
+ghost use Rattle.output.specs.Pasted.{Put};
+ghost use Rattle.text.specs.Promises.{PutWithin, most-digits, listed-weight, PutLines, longest-target, longest-line, most-steps, longest-listing, longest-report, listed-answers};
 
 // The most blocks that a file may have.
 pub const MOST_LISTED: u32 = 40;

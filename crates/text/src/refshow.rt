@@ -29,7 +29,8 @@ ghost use Rattle.refs.specs.Means.{gated, trail-of};
 ghost use Rattle.text.specs.Text.{tab, newline, decimal};
 ghost use Rattle.text.specs.Reflist.{files-check};
 ghost use Rattle.text.specs.Refshow.{words, refused-line, region-word, followed-text, show-text, size-show};
-ghost use Rattle.text.specs.Promises.{Put, PutWithin, no-less, longest-words, longest-refused, longest-unfit, longest-show};
+ghost use Rattle.output.specs.Pasted.{Put};
+ghost use Rattle.text.specs.Promises.{PutWithin, no-less, longest-words, longest-refused, longest-unfit, longest-show};
 
 // Enough for every answer.
 pub const SHOW_SIZE: usize = 1024;

@@ -37,7 +37,11 @@ returns-4 : tie.Need-returns-4
 returns-4 c = damaged-unused id-width _ _ (sym (c .before .unused-zero .ensures) ∙ not-true _ (c .if4 .taken))
 
 sum-right-requires : tie.Need-sum-right-requires
-sum-right-requires c κs = search needs
+sum-right-requires c κs = (
+  within _ (c .before .before .before .before .before .before .before .before .before .before .pre)
+      (sym (c .before .before .before .before .before .before .before .before .lengths-right .ensures) ∙ not-false _ (c .before .before .before .before .before .before .before .if1 .left)),
+  sym (c .before .unused-zero .ensures) ∙ not-false _ (c .if4 .left),
+)
 
 returns-5 : tie.Need-returns-5
 unfolding block-kind

@@ -1,6 +1,6 @@
--- The invariant: every byte passed is a digit.
+-- The invariant: whether every byte passed is a digit, and the rest is still to be seen.
 use mathlib.Core.Path.{_≡_}
-use borrow.Author.Tests.{not-true, not-false}
+use mathlib.Core.Bool.{_&&_, and-true, and-assoc}
 use Prim.Native.Nat.{_≤_, _-_}
 use lib.ListN.{length, drop}
 use Rattle.names.specs.Bytes.{every}
@@ -12,10 +12,10 @@ use Rattle.blocks.proofs.parse.all_hex.Statement.{statement}
 use Rattle.blocks.proofs.parse.all_hex.Tie as tie
 
 abbrev Inv-loop : tie.InvT-loop
-Inv-loop s i₀ i = (i ≤ length s) × (every is-hex s ≡ every is-hex (drop i s))
+Inv-loop s hex₀ i₀ hex i = (i ≤ length s) × (every is-hex s ≡ (hex && every is-hex (drop i s)))
 
 abbrev μ-loop : tie.MeasureT-loop
-μ-loop s i₀ i = length s - i
+μ-loop s hex₀ i₀ hex i = length s - i
 
 loop-holds : tie.Need-loop-holds Inv-loop μ-loop
 loop-holds c = search needs
@@ -26,10 +26,6 @@ shared-slice-read-is-hex-digit c = search needs
 is-hex-digit-requires : tie.Need-is-hex-digit-requires Inv-loop μ-loop
 is-hex-digit-requires c κs = search needs
 
-returns : tie.Need-returns Inv-loop μ-loop
-returns c =
-    rw (c .before .before .before .before .loop .inv .1, every-at _ _ (c .before .before .before .loop-test .taken) is-hex, ← c .before .is-hex-digit .ensures, not-true (c .before .is-hex-digit .result) (c .if1 .taken))
-
 add-i : tie.Need-add-i Inv-loop μ-loop
 add-i c = search needs
 
@@ -38,13 +34,10 @@ loop-less c = search needs
 
 loop-again : tie.Need-loop-again Inv-loop μ-loop
 loop-again c =
-    let at = c .before .before .before .before in (
-      omega arith,
-      rw (at .loop .inv .1, every-at _ _ (c .before .before .before .loop-test .taken) is-hex, ← c .before .is-hex-digit .ensures, not-false (c .before .is-hex-digit .result) (c .if1 .left)),
-    )
+    let at = c .before .before in (omega arith, rw (at .before .loop .inv .1, every-at _ _ (at .loop-test .taken) is-hex, ← c .is-hex-digit .ensures, and-assoc))
 
-returns-2 : tie.Need-returns-2 Inv-loop μ-loop
-returns-2 c = rw (c .before .loop .inv .1, every-end (c .before .before .before .args .s .now) (c .before .loop .i) (omega arith) is-hex)
+returns : tie.Need-returns Inv-loop μ-loop
+returns c = rw (c .before .loop .inv .1, every-end (c .before .before .before .args .s .now) (c .before .loop .i) (omega arith) is-hex, and-true)
 
 pub all-hex-spec : {M : Type 1} → statement M
 all-hex-spec =
@@ -55,8 +48,7 @@ all-hex-spec =
     loop-holds
     shared-slice-read-is-hex-digit
     is-hex-digit-requires
-    returns
     add-i
     loop-less
     loop-again
-    returns-2)
+    returns)

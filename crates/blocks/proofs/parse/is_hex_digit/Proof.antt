@@ -1,30 +1,22 @@
--- By range.
-use Rattle.blocks.proofs.Digits.{hex-digit, hex-upper, hex-lower, hex-below, hex-after-digits, hex-after-upper, hex-above}
-use native.Mathlib.Omega.{arith}
+-- Three ranges.
+use Rattle.blocks.specs.Content.{is-hex}
+use borrow.Author.Needs.{needs}
 use Rattle.blocks.proofs.parse.is_hex_digit.Statement.{statement}
 use Rattle.blocks.proofs.parse.is_hex_digit.Tie as tie
 
+in-range-requires : tie.Need-in-range-requires
+in-range-requires c κs = search needs
+
+in-range-requires-2 : tie.Need-in-range-requires-2
+in-range-requires-2 c κs = search needs
+
+in-range-requires-3 : tie.Need-in-range-requires-3
+in-range-requires-3 c κs = search needs
+
 returns : tie.Need-returns
-returns c = hex-digit _ (omega arith) (omega arith)
-
-returns-2 : tie.Need-returns-2
-returns-2 c = hex-upper _ (omega arith) (omega arith)
-
-returns-3 : tie.Need-returns-3
-returns-3 c = hex-lower _ (omega arith) (omega arith)
-
-returns-4 : tie.Need-returns-4
-returns-4 c = hex-below _ (omega arith)
-
-returns-5 : tie.Need-returns-5
-returns-5 c = hex-after-digits _ (omega arith) (omega arith)
-
-returns-6 : tie.Need-returns-6
-returns-6 c = hex-after-upper _ (omega arith) (omega arith)
-
-returns-7 : tie.Need-returns-7
-returns-7 c = hex-above _ (omega arith)
+unfolding is-hex
+returns c = rw (c .before .before .in-range .ensures, c .before .in-range2 .ensures, c .in-range3 .ensures)
 
 pub is-hex-digit-spec : {M : Type 1} → statement M
 is-hex-digit-spec =
-    tie.close (tie.spec returns returns-2 returns-3 returns-4 returns-5 returns-6 returns-7)
+    tie.close (tie.spec in-range-requires in-range-requires-2 in-range-requires-3 returns)

@@ -1,32 +1,65 @@
-use mathlib.Core.Path.{ap, _∙_}
+use mathlib.Core.Path.{sym, _∙_}
+use native.Mathlib.Omega.{arith}
+use borrow.Author.Tests.{not-true, not-false}
 use Rattle.blocks.specs.Means.{id-width, if-there, snapshot-of}
 use Rattle.refs.specs.Search.{find}
 use Rattle.refs.specs.Means.{answered}
-use Rattle.capi.specs.Numbers.{gate-number, result-number, answer-number}
-use Rattle.capi.proofs.Calls.{gated-number, only-answer}
+use Rattle.capi.specs.Report.{result-report, searched-report}
+use Rattle.capi.proofs.Calls.{too-short-given, report-given, search-turned, search-passed}
 use borrow.Author.Needs.{needs}
 use Rattle.capi.proofs.search.cosvint_find.Statement.{statement}
 use Rattle.capi.proofs.search.cosvint_find.Tie as tie
 
+returns : tie.Need-returns
+returns c =
+    let args = c .before .before .before .before .before .before .before .args in
+    let call = find id-width (snapshot-of (args .worktree .now) (if-there (args .has-common) (args .common .now)) (args .packed .now)) (args .name .now) (if-there (args .has-namespace) (args .namespace .now)) in
+    too-short-given (result-report searched-report call) (args .out .now) (c .if1 .taken)
+
 find-requires : tie.Need-find-requires
 find-requires c κs = search needs
 
-answer-number-requires : tie.Need-answer-number-requires
-answer-number-requires c κs = search needs
+is-passed-requires : tie.Need-is-passed-requires
+is-passed-requires c κs = search needs
 
-gate-number-requires : tie.Need-gate-number-requires
-gate-number-requires c κs = search needs
+put-turned-requires : tie.Need-put-turned-requires
+put-turned-requires c κs = search needs
 
-returns : tie.Need-returns
-returns c =
-    let args = c .before .before .before .before .before .before .before .before .before .args in
-    let find′ = c .before .before .before .find in
-    c .gate-number .ensures
-    ∙ ap (gate-number (find′ .result .gate)) (c .before .answer-number .ensures)
-    ∙ gated-number answer-number (find′ .result .gate) (answered (find′ .result .answer))
-    ∙ ap (result-number answer-number) (find′ .ensures)
-    ∙ only-answer (find id-width (snapshot-of (args .worktree .now) (if-there (args .has-common) (args .common .now)) (args .packed .now)) (args .name .now) (if-there (args .has-namespace) (args .namespace .now)))
+same-length : tie.Need-same-length
+same-length c = search needs
+
+returns-2 : tie.Need-returns-2
+returns-2 c =
+    let args = c .before .before .before .before .before .before .before .before .before .before .before .before .before .before .args in
+    let call = find id-width (snapshot-of (args .worktree .now) (if-there (args .has-common) (args .common .now)) (args .packed .now)) (args .name .now) (if-there (args .has-namespace) (args .namespace .now)) in
+    let f = c .before .before .before .before .before .before .find in
+    let gate = sym (c .before .before .before .before .before .is-passed .ensures) ∙ not-true _ (c .before .before .before .before .if2 .taken) in
+    report-given (result-report searched-report call) (omega (arith, c .before .before .before .before .before .before .before .if1 .left)) (search-turned (f .result .gate) (answered (f .result .answer)) call (f .ensures) gate) (c .before .before .put-turned .ensures)
+
+put-answer-requires : tie.Need-put-answer-requires
+put-answer-requires c κs = search needs
+
+same-length-2 : tie.Need-same-length-2
+same-length-2 c = search needs
+
+returns-3 : tie.Need-returns-3
+returns-3 c =
+    let args = c .before .before .before .before .before .before .before .before .before .before .before .before .before .before .args in
+    let call = find id-width (snapshot-of (args .worktree .now) (if-there (args .has-common) (args .common .now)) (args .packed .now)) (args .name .now) (if-there (args .has-namespace) (args .namespace .now)) in
+    let f = c .before .before .before .before .before .before .find in
+    let gate = sym (c .before .before .before .before .before .is-passed .ensures) ∙ not-false _ (c .before .before .before .before .if2 .left) in
+    report-given (result-report searched-report call) (omega (arith, c .before .before .before .before .before .before .before .if1 .left)) (search-passed (f .result .gate) (answered (f .result .answer)) call (f .ensures) gate) (c .before .before .put-answer .ensures)
 
 pub cosvint-find-spec : {M : Type 1} → statement M
 cosvint-find-spec =
-    tie.close (tie.spec find-requires answer-number-requires gate-number-requires returns)
+    tie.close
+    (tie.spec
+    returns
+    find-requires
+    is-passed-requires
+    put-turned-requires
+    same-length
+    returns-2
+    put-answer-requires
+    same-length-2
+    returns-3)

@@ -1,69 +1,77 @@
 -- The invariant: the answer is that of what is left of both from i on.
 use mathlib.Core.Path.{_≡_, refl}
 use Prim.Native.Nat.{_≤_, _-_}
-use native.Mathlib.Omega.{arith}
-use lib.ListN.{length, drop}
+use lib.ListN.{drop}
 use Rattle.names.specs.Bytes.{order}
-use Rattle.names.proofs.Walks.{order-less, order-greater, order-same, order-longer, order-shorter, order-end}
+use Rattle.names.proofs.Walks.{order-told, order-same, order-longer, order-shorter, order-end}
+use native.Mathlib.Omega.{arith}
+use borrow.Author.Needs.{needs}
 use Rattle.names.proofs.bytes.compare.Statement.{statement}
 use Rattle.names.proofs.bytes.compare.Tie as tie
 
 abbrev Inv-loop : tie.InvT-loop
-Inv-loop a b i₀ i = (i ≤ length a) × (order a b ≡ order (drop i a) (drop i b))
+Inv-loop a b n i₀ i = (i ≤ n) × (order a b ≡ order (drop i a) (drop i b))
 
 abbrev μ-loop : tie.MeasureT-loop
-μ-loop a b i₀ i = length a - i
+μ-loop a b n i₀ i = n - i
+
+shorter-requires : tie.Need-shorter-requires Inv-loop μ-loop
+shorter-requires c κs = search needs
 
 loop-holds : tie.Need-loop-holds Inv-loop μ-loop
 loop-holds c = (omega arith, refl)
 
+shared-slice-read-if1 : tie.Need-shared-slice-read-if1 Inv-loop μ-loop
+shared-slice-read-if1 c = omega arith
+
+shared-slice-read-if1-2 : tie.Need-shared-slice-read-if1-2 Inv-loop μ-loop
+shared-slice-read-if1-2 c = omega arith
+
+shared-slice-read-byte-order : tie.Need-shared-slice-read-byte-order Inv-loop μ-loop
+shared-slice-read-byte-order c = omega arith
+
+shared-slice-read-byte-order-2 : tie.Need-shared-slice-read-byte-order-2 Inv-loop μ-loop
+shared-slice-read-byte-order-2 c = omega arith
+
+byte-order-requires : tie.Need-byte-order-requires Inv-loop μ-loop
+byte-order-requires c κs = search needs
+
 returns : tie.Need-returns Inv-loop μ-loop
 returns c =
-    let a = c .before .before in
-    rw (a .loop .inv .1, order-longer (a .before .args .a .now) (a .before .args .b .now) (a .loop .i) (omega arith) (omega arith))
-
-shared-slice-read-if2 : tie.Need-shared-slice-read-if2 Inv-loop μ-loop
-shared-slice-read-if2 c = omega arith
-
-shared-slice-read-if2-2 : tie.Need-shared-slice-read-if2-2 Inv-loop μ-loop
-shared-slice-read-if2-2 c = omega arith
-
-returns-2 : tie.Need-returns-2 Inv-loop μ-loop
-returns-2 c =
-    let a = c .before .before .before .before .before in
-    rw (a .loop .inv .1, order-less (a .before .args .a .now) (a .before .args .b .now) (a .loop .i) (omega arith) (omega arith) (c .if2 .taken))
-
-shared-slice-read-if3 : tie.Need-shared-slice-read-if3 Inv-loop μ-loop
-shared-slice-read-if3 c = omega arith
-
-shared-slice-read-if3-2 : tie.Need-shared-slice-read-if3-2 Inv-loop μ-loop
-shared-slice-read-if3-2 c = omega arith
-
-returns-3 : tie.Need-returns-3 Inv-loop μ-loop
-returns-3 c =
-    let a = c .before .before .before .before .before .before .before .before in
-    rw (a .loop .inv .1, order-greater (a .before .args .a .now) (a .before .args .b .now) (a .loop .i) (omega arith) (omega arith) (c .if3 .taken))
+    let g = c .before .before .before .before .before .before .before .before .before .before .before .args in
+    let at = c .before .before .before .before .before .before .before .loop in
+    rw (at .inv .1, order-told (g .a .now) (g .b .now) (at .i) (omega arith) (omega arith) (c .before .before .before .if1 .taken)) (c .byte-order .ensures)
 
 add-i : tie.Need-add-i Inv-loop μ-loop
-add-i c = omega arith
+add-i c = search needs
 
 loop-less : tie.Need-loop-less Inv-loop μ-loop
-loop-less c = omega arith
+loop-less c = search needs
 
 loop-again : tie.Need-loop-again Inv-loop μ-loop
 loop-again c =
-    let a = c .before .before .before .before .before .before .before .before in
-    (omega arith, rw (a .loop .inv .1) (order-same (a .before .args .a .now) (a .before .args .b .now) (a .loop .i) (omega arith) (omega arith) (omega arith)))
+    let g = c .before .before .before .before .before .before .before .before .args in
+    let at = c .before .before .before .before .loop in
+    (omega arith, rw (at .inv .1) (order-same (g .a .now) (g .b .now) (at .i) (omega arith) (omega arith) (c .if1 .left)))
+
+returns-2 : tie.Need-returns-2 Inv-loop μ-loop
+returns-2 c =
+    let g = c .before .before .before .before .before .before .args in
+    let at = c .before .before .loop in
+    let h = c .before .before .before .shorter .ensures .2 (omega arith) in
+    rw (at .inv .1, order-longer (g .a .now) (g .b .now) (at .i) (c .if2 .taken) (omega arith))
+
+returns-3 : tie.Need-returns-3 Inv-loop μ-loop
+returns-3 c =
+    let g = c .before .before .before .before .before .before .before .args in
+    let at = c .before .before .before .loop in
+    rw (at .inv .1, order-shorter (g .a .now) (g .b .now) (at .i) (omega arith) (c .if3 .taken))
 
 returns-4 : tie.Need-returns-4 Inv-loop μ-loop
 returns-4 c =
-    let a = c .before .before in
-    rw (a .loop .inv .1, order-shorter (a .before .args .a .now) (a .before .args .b .now) (a .loop .i) (omega arith) (omega arith))
-
-returns-5 : tie.Need-returns-5 Inv-loop μ-loop
-returns-5 c =
-    let a = c .before .before in
-    rw (a .loop .inv .1, order-end (a .before .args .a .now) (a .before .args .b .now) (a .loop .i) (omega arith) (omega arith))
+    let g = c .before .before .before .before .before .before .before .args in
+    let at = c .before .before .before .loop in
+    rw (at .inv .1, order-end (g .a .now) (g .b .now) (at .i) (omega arith) (omega arith))
 
 pub compare-spec : {M : Type 1} → statement M
 compare-spec =
@@ -71,16 +79,17 @@ compare-spec =
     (tie.spec
     Inv-loop
     μ-loop
+    shorter-requires
     loop-holds
+    shared-slice-read-if1
+    shared-slice-read-if1-2
+    shared-slice-read-byte-order
+    shared-slice-read-byte-order-2
+    byte-order-requires
     returns
-    shared-slice-read-if2
-    shared-slice-read-if2-2
-    returns-2
-    shared-slice-read-if3
-    shared-slice-read-if3-2
-    returns-3
     add-i
     loop-less
     loop-again
-    returns-4
-    returns-5)
+    returns-2
+    returns-3
+    returns-4)

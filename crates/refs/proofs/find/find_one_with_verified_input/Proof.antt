@@ -23,7 +23,7 @@ returns c =
     let one-pass = c .before .before .one-pass in
     search-first (args .e .now) (snapshot-of (args .worktree .now) (if-there (args .has-common) (args .common .now)) (args .packed .now)) (args .x .now)
     (is-pseudo-ref .result) (is-pseudo-ref .ensures) (answered (one-pass .result)) (one-pass .ensures)
-    (sym (c .before .has-answer .ensures) ∙ c .if1 .taken)
+    (sym (c .before .has-answer .ensures _) ∙ c .if1 .taken)
 
 try-remote-head-requires : tie.Need-try-remote-head-requires
 try-remote-head-requires c κs = search needs
@@ -35,7 +35,7 @@ returns-2 c =
     let one-pass = c .before .before .before .before .one-pass in
     search-one (args .e .now) (snapshot-of (args .worktree .now) (if-there (args .has-common) (args .common .now)) (args .packed .now)) (args .x .now)
     (is-pseudo-ref .result) (is-pseudo-ref .ensures) (answered (one-pass .result)) (one-pass .ensures)
-    (sym (c .before .before .before .has-answer .ensures) ∙ c .before .before .if1 .left) (not-true _ (c .before .if2 .taken)) _
+    (sym (c .before .before .before .has-answer .ensures _) ∙ c .before .before .if1 .left) (not-true _ (c .before .if2 .taken)) _
     (c .try-remote-head .ensures)
 
 one-pass-requires-2 : tie.Need-one-pass-requires-2
@@ -52,9 +52,9 @@ returns-3 c =
     let one-pass2 = c .before .before .one-pass2 in
     search-second (args .e .now) (snapshot-of (args .worktree .now) (if-there (args .has-common) (args .common .now)) (args .packed .now)) (args .x .now)
     (is-pseudo-ref .result) (is-pseudo-ref .ensures) (answered (one-pass .result)) (one-pass .ensures)
-    (sym (c .before .before .before .before .before .has-answer .ensures) ∙ c .before .before .before .before .if1 .left)
+    (sym (c .before .before .before .before .before .has-answer .ensures _) ∙ c .before .before .before .before .if1 .left)
     (not-false _ (c .before .before .before .if2 .left)) (answered (one-pass2 .result)) (one-pass2 .ensures)
-    (sym (c .before .has-answer2 .ensures) ∙ c .if3 .taken)
+    (sym (c .before .has-answer2 .ensures _) ∙ c .if3 .taken)
 
 try-remote-head-requires-2 : tie.Need-try-remote-head-requires-2
 try-remote-head-requires-2 c κs = search needs
@@ -67,9 +67,9 @@ returns-4 c =
     let one-pass2 = c .before .before .before .one-pass2 in
     search-last (args .e .now) (snapshot-of (args .worktree .now) (if-there (args .has-common) (args .common .now)) (args .packed .now)) (args .x .now)
     (is-pseudo-ref .result) (is-pseudo-ref .ensures) (answered (one-pass .result)) (one-pass .ensures)
-    (sym (c .before .before .before .before .before .before .has-answer .ensures) ∙ c .before .before .before .before .before .if1 .left)
+    (sym (c .before .before .before .before .before .before .has-answer .ensures _) ∙ c .before .before .before .before .before .if1 .left)
     (not-false _ (c .before .before .before .before .if2 .left)) (answered (one-pass2 .result)) (one-pass2 .ensures)
-    (sym (c .before .before .has-answer2 .ensures) ∙ c .before .if3 .left) _ (c .try-remote-head2 .ensures)
+    (sym (c .before .before .has-answer2 .ensures _) ∙ c .before .if3 .left) _ (c .try-remote-head2 .ensures)
 
 pub find-one-with-verified-input-spec : {M : Type 1} → statement M
 find-one-with-verified-input-spec =

@@ -6,6 +6,8 @@ use Rattle.blocks.specs.Snapshot.{store}
 use Rattle.refs.specs.Promises.{in-common}
 use Rattle.refs.proofs.Lookups.{kind-read, region-fit, lookup-clash, lookup-loose, lookup-packed}
 use borrow.Author.Needs.{needs}
+use Rattle.blocks.specs.Block.{Region}
+use Rattle.refs.specs.Means.{answered}
 use Rattle.refs.proofs.find.lookup.Statement.{statement}
 use Rattle.refs.proofs.find.lookup.Tie as tie
 
@@ -61,8 +63,26 @@ block-answer-requires c κs = c .content-of .ensures ∙ rw (c .before .before .
 enum-told : tie.Need-enum-told
 enum-told c = search needs
 
-packed-lookup-requires : tie.Need-packed-lookup-requires
-packed-lookup-requires c κs = search needs
+packed-index-requires : tie.Need-packed-index-requires
+packed-index-requires c κs = search needs
+
+enum-known-j : tie.Need-enum-known-j
+enum-known-j c = search needs
+
+name-at-requires : tie.Need-name-at-requires
+name-at-requires c κs = search needs
+
+block-content-requires : tie.Need-block-content-requires
+block-content-requires c κs = search needs
+
+block-answer-requires-2 : tie.Need-block-answer-requires-2
+block-answer-requires-2 c κs = search needs
+
+enum-told-2 : tie.Need-enum-told-2
+enum-told-2 c = search needs
+
+not-found-requires-2 : tie.Need-not-found-requires-2
+not-found-requires-2 c κs = search needs
 
 returns-2 : tie.Need-returns-2
 returns-2 c =
@@ -88,25 +108,48 @@ returns-2 c =
 returns-3 : tie.Need-returns-3
 unfolding store
 returns-3 c =
-    let args = c .before .before .before .before .before .before .before .before .before .before .before .before .before .before .before .before .before .args in
-    let to-base-dir-and-relative-name = c .before .before .before .before .before .before .before .before .before .to-base-dir-and-relative-name in
-    let lend = c .before .before .before .before .before .before .before .before .before .before .lend in
-    let reads-common = c .before .before .before .before .before .before .before .before .reads-common in
-    let loose-region = c .before .before .before .before .before .before .before .loose-region in
-    let tail = c .before .before .before .before .before .before .tail in
+    let args = c .before .before .before .before .before .before .before .before .before .before .before .before .before .before .before .before .before .before .before .before .before .before .before .args in
+    let pre = c .before .before .before .before .before .before .before .before .before .before .before .before .before .before .before .before .before .before .before .before .before .before .before .pre in
+    let to-base-dir-and-relative-name = c .before .before .before .before .before .before .before .before .before .before .before .before .before .before .before .to-base-dir-and-relative-name in
+    let lend = c .before .before .before .before .before .before .before .before .before .before .before .before .before .before .before .before .lend in
+    let reads-common = c .before .before .before .before .before .before .before .before .before .before .before .before .before .before .reads-common in
+    let loose-region = c .before .before .before .before .before .before .before .before .before .before .before .before .before .loose-region in
+    let tail = c .before .before .before .before .before .before .before .before .before .before .before .before .tail in
     let worktree = args .worktree .now in
     let common = args .common .now in
     let packed = args .packed .now in
     let has-common = args .has-common in
     let c′ = args .c in
-    lookup-packed worktree common packed has-common
-    (c .before .before .before .before .before .before .before .before .before .before .before .before .before .before .before .before .before .pre)
+    lookup-packed worktree common packed has-common pre
     (args .e .now) (content c′) (base-of (to-base-dir-and-relative-name .result .base)) (drop (to-base-dir-and-relative-name .result .off) (content c′))
     (rw (lend .ensures) at (to-base-dir-and-relative-name .ensures)) (args .seek)
-    (rw (tail .ensures, lend .ensures, loose-region .ensures, reads-common .ensures, c .before .before .before .before .if1 .left) at (c .before .before .before .before .before .has-clash .ensures))
-    _ (rw (tail .ensures, lend .ensures, loose-region .ensures, reads-common .ensures) at (c .before .before .before .block-of .ensures))
-    (c .before .enum-told .given .1) _
-    (rw (lend .ensures) at (c .packed-lookup .ensures (store id-width (snapshot-of worktree (if-there has-common common) packed)) refl))
+    (rw (tail .ensures, lend .ensures, loose-region .ensures, reads-common .ensures, c .before .before .before .before .before .before .before .before .before .before .if1 .left) at (c .before .before .before .before .before .before .before .before .before .before .before .has-clash .ensures))
+    _ (rw (tail .ensures, lend .ensures, loose-region .ensures, reads-common .ensures) at (c .before .before .before .before .before .before .before .before .before .block-of .ensures))
+    (c .before .before .before .before .before .before .before .enum-told .given .1) _
+    (rw (lend .ensures) at (c .before .before .before .before .before .before .packed-index .ensures (store id-width (snapshot-of worktree (if-there has-common common) packed)) refl (answered (c .block-answer2 .result)) (rw (c .before .before .before .before .j .given .1) (record { name = content (c .before .before .name-at .result); is = c .block-answer2 .ensures Region.packed (pre .packed) }))))
+
+returns-4 : tie.Need-returns-4
+unfolding store
+returns-4 c =
+    let args = c .before .before .before .before .before .before .before .before .before .before .before .before .before .before .before .before .before .before .before .before .args in
+    let pre = c .before .before .before .before .before .before .before .before .before .before .before .before .before .before .before .before .before .before .before .before .pre in
+    let to-base-dir-and-relative-name = c .before .before .before .before .before .before .before .before .before .before .before .before .to-base-dir-and-relative-name in
+    let lend = c .before .before .before .before .before .before .before .before .before .before .before .before .before .lend in
+    let reads-common = c .before .before .before .before .before .before .before .before .before .before .before .reads-common in
+    let loose-region = c .before .before .before .before .before .before .before .before .before .before .loose-region in
+    let tail = c .before .before .before .before .before .before .before .before .before .tail in
+    let worktree = args .worktree .now in
+    let common = args .common .now in
+    let packed = args .packed .now in
+    let has-common = args .has-common in
+    let c′ = args .c in
+    lookup-packed worktree common packed has-common pre
+    (args .e .now) (content c′) (base-of (to-base-dir-and-relative-name .result .base)) (drop (to-base-dir-and-relative-name .result .off) (content c′))
+    (rw (lend .ensures) at (to-base-dir-and-relative-name .ensures)) (args .seek)
+    (rw (tail .ensures, lend .ensures, loose-region .ensures, reads-common .ensures, c .before .before .before .before .before .before .before .if1 .left) at (c .before .before .before .before .before .before .before .before .has-clash .ensures))
+    _ (rw (tail .ensures, lend .ensures, loose-region .ensures, reads-common .ensures) at (c .before .before .before .before .before .before .block-of .ensures))
+    (c .before .before .before .before .enum-told .given .1) _
+    (rw (lend .ensures) at (c .before .before .before .packed-index .ensures (store id-width (snapshot-of worktree (if-there has-common common) packed)) refl (answered (c .not-found2 .result)) (rw (c .before .enum-told2 .given .1) (c .not-found2 .ensures))))
 
 pub lookup-spec : {M : Type 1} → statement M
 lookup-spec =
@@ -126,6 +169,13 @@ lookup-spec =
     content-of-requires
     block-answer-requires
     enum-told
-    packed-lookup-requires
+    packed-index-requires
+    enum-known-j
+    name-at-requires
+    block-content-requires
+    block-answer-requires-2
+    enum-told-2
+    not-found-requires-2
     returns-2
-    returns-3)
+    returns-3
+    returns-4)

@@ -33,7 +33,7 @@ returns c =
     let try-directories = c .before .before .before .before .try-directories in
     pass-found (args .e .now) (snapshot-of (args .worktree .now) (if-there (args .has-common) (args .common .now)) (args .packed .now)) (args .x .now)
     (args .pseudo) (args .one) (try-directories .d) (try-directories .inv) (omega arith) _ (c .before .before .try-directory .ensures)
-    (sym (c .before .has-answer .ensures) ∙ c .if1 .taken)
+    (sym (c .before .has-answer .ensures _) ∙ c .if1 .taken)
 
 add-d : tie.Need-add-d Inv-try-directories μ-try-directories
 add-d c = search needs
@@ -47,7 +47,7 @@ try-directories-again c =
     let try-directories = c .before .before .before .before .before .try-directories in
     stands-next (args .e .now) (snapshot-of (args .worktree .now) (if-there (args .has-common) (args .common .now)) (args .packed .now)) (args .x .now)
     (args .pseudo) (args .one) (try-directories .d) (try-directories .inv) (omega arith) _ (c .before .before .before .try-directory .ensures)
-    (sym (c .before .before .has-answer .ensures) ∙ c .before .if1 .left) (c .if2 .left)
+    (sym (c .before .before .has-answer .ensures _) ∙ c .before .if1 .left) (c .if2 .left)
 
 not-found-requires : tie.Need-not-found-requires Inv-try-directories μ-try-directories
 not-found-requires c κs = search needs
@@ -56,7 +56,7 @@ returns-2 : tie.Need-returns-2 Inv-try-directories μ-try-directories
 returns-2 c rest =
     rw (c .not-found .ensures)
     (⊎-elim (λ w. pass-end (c .before .before .before .before .before .before .before .before .args .e .now) (snapshot-of (c .before .before .before .before .before .before .before .before .args .worktree .now) (if-there (c .before .before .before .before .before .before .before .before .args .has-common) (c .before .before .before .before .before .before .before .before .args .common .now)) (c .before .before .before .before .before .before .before .before .args .packed .now)) (c .before .before .before .before .before .before .before .before .args .x .now) (c .before .before .before .before .before .before .before .before .args .pseudo) (c .before .before .before .before .before .before .before .before .args .one) (c .before .before .try-directories .d) (c .before .before .try-directories .inv) (omega arith) rest)
-    (λ w. pass-early (c .before .before .before .before .before .before .before .before .args .e .now) (snapshot-of (c .before .before .before .before .before .before .before .before .args .worktree .now) (if-there (c .before .before .before .before .before .before .before .before .args .has-common) (c .before .before .before .before .before .before .before .before .args .common .now)) (c .before .before .before .before .before .before .before .before .args .packed .now)) (c .before .before .before .before .before .before .before .before .args .x .now) (c .before .before .before .before .before .before .before .before .args .pseudo) (c .before .before .before .before .before .before .before .before .args .one) (c .before .before .try-directories .d) (c .before .before .try-directories .inv) (omega (arith, w .0 .taken)) _ (w .1 .ensures) (sym (w .2 .ensures) ∙ w .3 .left) (w .4 .taken) rest)
+    (λ w. pass-early (c .before .before .before .before .before .before .before .before .args .e .now) (snapshot-of (c .before .before .before .before .before .before .before .before .args .worktree .now) (if-there (c .before .before .before .before .before .before .before .before .args .has-common) (c .before .before .before .before .before .before .before .before .args .common .now)) (c .before .before .before .before .before .before .before .before .args .packed .now)) (c .before .before .before .before .before .before .before .before .args .x .now) (c .before .before .before .before .before .before .before .before .args .pseudo) (c .before .before .before .before .before .before .before .before .args .one) (c .before .before .try-directories .d) (c .before .before .try-directories .inv) (omega (arith, w .0 .taken)) _ (w .1 .ensures) (sym (w .2 .ensures _) ∙ w .3 .left) (w .4 .taken) rest)
     (c .before .try-directories-test .came))
 
 pub one-pass-spec : {M : Type 1} → statement M

@@ -4,7 +4,8 @@ use native.Mathlib.Omega.{arith}
 use lib.ListN.{length, length-map}
 use borrow.Author.Needs.{needs}
 use Rattle.names.specs.Name.{longest}
-use Rattle.text.proofs.Puts.{put-within, held-small}
+use Rattle.names.proofs.Parts.{held-small}
+use Rattle.text.proofs.Puts.{put-within}
 use Rattle.text.proofs.buffer.put_name.Statement.{statement}
 use Rattle.text.proofs.buffer.put_name.Tie as tie
 

@@ -5,7 +5,8 @@ use Rattle.names.specs.Bytes.{Bytes}
 use Rattle.names.specs.Name.{longest}
 use Rattle.names.specs.Category.{short-name}
 use Rattle.names.specs.Means.{held}
-use Rattle.text.proofs.Puts.{put-within, held-small, short-small}
+use Rattle.names.proofs.Parts.{held-small}
+use Rattle.text.proofs.Puts.{put-within, short-small}
 use native.Mathlib.Omega.{arith}
 use borrow.Author.Needs.{needs}
 use Rattle.text.proofs.reflist.put_short.Statement.{statement}

@@ -1,0 +1,2 @@
+-- What is known of writes.
+pub mod Pastes
