@@ -1,178 +1,177 @@
-//! All three ways must give the same answers, on small snapshots made at random.
-use crate::{block, natural, proved, region, seal, twin, Snapshot};
-use std::collections::{BTreeMap, BTreeSet};
-use std::fmt::Debug;
+//! All three ways must give the same answers, whole records, on small snapshots made at random.
+use crate::natural::{self, Reference, Refusal, Snapshot, Stop, Target};
+use harness::blocks::{seal, BLOCK};
+use harness::dice::Dice;
+use harness::record::{self, Record, ANSWER_SIZE, NOTHING, STATE_SIZE};
+use harness::{small, Calls, Regions, Space, PROVED, TWIN};
+use std::collections::BTreeMap;
 
-/// A fixed sequence of numbers that look random.
-struct Dice(u64);
-
-impl Dice {
-    fn below(&mut self, n: usize) -> usize {
-        self.0 = self.0.wrapping_mul(6364136223846793005).wrapping_add(1442695040888963407);
-        (self.0 >> 33) as usize % n
-    }
-
-    fn of<'a, A: ?Sized>(&mut self, l: &[&'a A]) -> &'a A {
-        l[self.below(l.len())]
+/// A reference as the calls write it.
+fn of_reference(number: u32, r: &Reference) -> Record {
+    match &r.target {
+        Target::Id(id) => record::object(number, &r.name, id, r.peeled.as_ref()),
+        Target::Name(n) => record::symbolic(number, &r.name, n),
     }
 }
 
-/// Stops the program where the answers differ.
-fn same<A: PartialEq + Debug>(what: impl Fn() -> String, answers: [A; 3]) -> A {
-    let [p, t, n] = answers;
+fn of_refusal(r: &Refusal) -> Record {
+    match r.place {
+        Some((region, block)) => record::unfit(r.number, region, block),
+        None => record::bare(r.number),
+    }
+}
+
+fn of_found(found: Result<Option<Reference>, Refusal>) -> Record {
+    match found {
+        Ok(Some(r)) => of_reference(0, &r),
+        Ok(None) => record::bare(NOTHING),
+        Err(refusal) => of_refusal(&refusal),
+    }
+}
+
+fn of_followed(followed: Result<Option<Reference>, Stop>) -> Record {
+    match followed {
+        Err(Stop::At(number, r)) => of_reference(number, &r),
+        Err(Stop::Refused(refusal)) => of_refusal(&refusal),
+        Ok(found) => of_found(Ok(found)),
+    }
+}
+
+/// The record that a call writes, whose number is the one that it answers.
+fn written(call: impl FnOnce(&mut [u8]) -> u32) -> Record {
+    let mut out = [0xA5; ANSWER_SIZE];
+    let number = call(&mut out);
+    assert_eq!(u64::from(number), record::at(&out, record::NUMBER), "the number answered and the one in the record");
+    out
+}
+
+/// Stops the program where the answers differ; else their number.
+fn same(what: impl Fn() -> String, [p, t, n]: [Record; 3]) -> u32 {
     if p != t || p != n {
-        eprintln!("they differ: proved {p:?}, twin {t:?}, natural {n:?} for {}", what());
+        let [p, t, n] = [p, t, n].map(|r| record::shown(&r));
+        eprintln!("they differ for {}\nproved  {p}\ntwin    {t}\nnatural {n}", what());
         std::process::exit(1);
     }
-    p
+    record::at(&p, record::NUMBER) as u32
+}
+
+/// How often each number was answered.
+#[derive(Default)]
+struct Counts(BTreeMap<u32, usize>);
+
+impl Counts {
+    fn add(&mut self, number: u32) {
+        *self.0.entry(number).or_default() += 1;
+    }
+
+    fn tell(&self, what: &str) {
+        let all: usize = self.0.values().sum();
+        let each: Vec<String> = self.0.iter().map(|(k, n)| format!("{k}: {n}")).collect();
+        println!("{what}: {all} answers, all three agree ({})", each.join(", "));
+    }
+}
+
+pub fn regions<'a>(s: &Snapshot<'a>) -> Regions<'a> {
+    Regions { worktree: s.worktree, common: s.common.unwrap_or(&[]), has_common: s.common.is_some(), packed: s.packed }
+}
+
+fn space(namespace: Option<&[u8]>) -> Space<'_> {
+    Space { name: namespace.unwrap_or(&[]), given: namespace.is_some() }
 }
 
 /// Regions with one byte changed, with the sum put right or not.
-fn regions(packed: bool) {
-    let mut q = region(if packed { 4 } else { 1 }, (0..16).map(|k| format!("refs/heads/feature/topic-{k:06}")));
-    let mut dice = Dice(99);
+fn changed(packed: bool, q: &mut [u8], counts: &mut Counts) {
+    let mut dice = Dice::new(99);
     for _ in 0..100_000 {
         let i = dice.below(q.len());
-        let k = i / 512 * 512;
-        let old = q[k..k + 512].to_vec();
-        q[i] = dice.below(256) as u8;
-        if dice.below(2) == 1 {
-            seal(&mut q[k..k + 512]);
+        let k = i / BLOCK * BLOCK;
+        let old = q[k..k + BLOCK].to_vec();
+        q[i] = dice.byte();
+        if dice.percent(50) {
+            seal(&mut q[k..k + BLOCK]);
         }
-        let answers = [proved::region_flaw(&q, packed), twin::region_flaw(&q, packed), natural::region_flaw(&q, packed)];
-        same(|| format!("byte {i}"), answers);
-        q[k..k + 512].copy_from_slice(&old);
-    }
-    println!("{}: 100000 changed regions, all three agree", if packed { "packed" } else { "loose" });
-}
-
-const NAMES: [&str; 28] = [
-    "HEAD", "FETCH_HEAD", "a", "b", "a/b", "refs/a", "refs/a/b", "refs/heads/a", "refs/heads/a/b", "refs/heads/b", "refs/heads/main",
-    "refs/tags/a", "refs/tags/b", "refs/remotes/a", "refs/remotes/a/HEAD", "refs/remotes/o/b", "refs/notes/a", "refs/bisect/a",
-    "refs/rewritten/b", "refs/worktree/a", "main-worktree/HEAD", "main-worktree/refs/heads/a", "worktrees/w/HEAD",
-    "worktrees/w/refs/heads/a", "worktrees/w/refs/bisect/a", "worktrees/w", "refs/heads/HEAD", "heads/a",
-];
-
-const SPACES: [&str; 4] = ["n", "n/m", "a..b", "long"];
-
-fn space(dice: &mut Dice) -> Option<Vec<u8>> {
-    let long = ["component"; 12].join("/");
-    (dice.below(3) == 0).then(|| match dice.of(&SPACES) {
-        "long" => long.into_bytes(),
-        s => s.as_bytes().to_vec(),
-    })
-}
-
-/// A name that may stand in a region: plain, in a namespace, or malformed.
-fn held(dice: &mut Dice, sound: bool) -> String {
-    let name = dice.of(&NAMES);
-    match dice.below(12) {
-        0 | 1 => format!("refs/namespaces/n/{name}"),
-        2 => format!("refs/namespaces/n/refs/namespaces/m/{name}"),
-        3 if !sound => format!("{name}.lock"),
-        _ => name.to_string(),
+        let (worktree, packed) = if packed { (&[][..], &*q) } else { (&*q, &[][..]) };
+        let s = &Snapshot { worktree, common: None, packed };
+        let natural = natural::fitness(s).map_or_else(|refusal| of_refusal(&refusal), |()| record::bare(0));
+        let [p, t] = [&PROVED, &TWIN].map(|way| written(|out| (way.fitness)(&regions(s), out)));
+        counts.add(same(|| format!("fitness with byte {i} changed"), [p, t, natural]));
+        q[k..k + BLOCK].copy_from_slice(&old);
     }
 }
 
-fn content(dice: &mut Dice) -> String {
-    let target = dice.of(&NAMES);
-    match dice.below(16) {
-        0 => format!("ref: {}\n", held(dice, true)),
-        1 => "ref: refs/heads/.invalid".to_string(),
-        2 => "ref: refs//x".to_string(),
-        3 => format!("{:040x}a", 5),
-        4 => String::new(),
-        5 => format!("{:040X}z", 0xABCDEF),
-        6..=12 => format!("ref:  {target}\r\n"),
-        _ => format!("{:040x}\n", 77),
+fn searches(s: &Snapshot, dice: &mut Dice, finds: &mut Counts, follows: &mut Counts) {
+    let name = &small::sought(dice)[..];
+    let namespace = dice.percent(30).then(|| small::space(dice));
+    let namespace = namespace.as_deref();
+    let (r, e) = (&regions(s), &space(namespace));
+    let what = || format!("{} in {namespace:?}", String::from_utf8_lossy(name));
+    let [p, t] = [&PROVED, &TWIN].map(|way| written(|out| (way.find)(r, name, e, out)));
+    finds.add(same(what, [p, t, of_found(natural::find(s, name, namespace))]));
+    let [p, t] = [&PROVED, &TWIN].map(|way| written(|out| (way.follow)(r, name, e, out)));
+    follows.add(same(what, [p, t, of_followed(natural::follow(s, name, namespace))]));
+}
+
+/// The answers of a whole listing, or of its opening where that is refused; and the state that is left.
+pub fn listed(way: &Calls, r: &Regions, e: &Space) -> (Vec<Record>, [u8; STATE_SIZE]) {
+    let mut state = [0xA5; STATE_SIZE];
+    let opened = (way.list_open)(r, e, &mut state);
+    if opened != 0 {
+        return (vec![record::bare(opened)], state);
+    }
+    let step = || written(|out| (way.list_step)(r, &mut state, out));
+    let mut answers: Vec<Record> = std::iter::repeat_with(step).take_while(|a| *a != record::bare(NOTHING)).collect();
+    answers.push(record::bare(NOTHING));
+    (answers, state)
+}
+
+fn naturally_listed(s: &Snapshot, namespace: Option<&[u8]>) -> Vec<Record> {
+    let listing = match natural::list(s, namespace) {
+        Ok(listing) => listing,
+        Err(number) => return vec![record::bare(number)],
+    };
+    let each = |a: Result<Reference, u32>| a.map_or_else(record::bare, |r| of_reference(0, &r));
+    listing.map(each).chain([record::bare(NOTHING)]).collect()
+}
+
+fn listings(s: &Snapshot, dice: &mut Dice, counts: &mut Counts) {
+    let namespace = dice.percent(40).then(|| small::space(dice));
+    let namespace = namespace.as_deref();
+    let [(p, p_state), (t, t_state)] = [&PROVED, &TWIN].map(|way| listed(way, &regions(s), &space(namespace)));
+    let n = naturally_listed(s, namespace);
+    assert!(p.len() == t.len() && p.len() == n.len() && p_state == t_state, "listings of other lengths, or that leave other states");
+    for (k, ((p, t), n)) in p.into_iter().zip(t).zip(n).enumerate() {
+        counts.add(same(|| format!("entry {k} of a listing in {namespace:?}"), [p, t, n]));
     }
 }
 
-/// A region, mostly fit for search: some names, and where it is loose a chain of symbolic references.
-fn small(dice: &mut Dice, packed: bool) -> Vec<u8> {
-    let names: BTreeSet<String> = (0..dice.below(14)).map(|_| held(dice, packed)).collect();
-    let mut blocks = BTreeMap::new();
-    for name in names {
-        let n = name.as_bytes();
-        let b = match (packed, dice.below(20)) {
-            (true, 0..=5) => block(4, n, format!("{:080x}", 0xFEDu32).as_bytes()),
-            (true, _) => block(4, n, format!("{:040X}", 0xBEEFu32).as_bytes()),
-            (false, 0) => block(2, n, b""),
-            _ => block(1, n, content(dice).as_bytes()),
-        };
-        blocks.insert(name, b);
+fn names(dice: &mut Dice, counts: &mut Counts) {
+    let mut name = if dice.percent(50) { small::sought(dice) } else { small::space(dice) };
+    let at = dice.below(name.len());
+    if dice.percent(50) {
+        name[at] = dice.byte();
     }
-    if !packed {
-        for k in 0..dice.below(8) {
-            let name = format!("refs/c/{k}");
-            let b = block(1, name.as_bytes(), format!("ref: refs/c/{}", k + 1).as_bytes());
-            blocks.insert(name, b);
-        }
+    let natural = [natural::partial_name(&name), natural::full_name(&name), natural::namespace(&name)];
+    let numbers = |way: &Calls| [(way.partial_name)(&name), (way.full_name)(&name), (way.namespace)(&name)];
+    for ((p, t), n) in numbers(&PROVED).into_iter().zip(numbers(&TWIN)).zip(natural) {
+        let what = || format!("the name {:?}", String::from_utf8_lossy(&name));
+        counts.add(same(what, [p, t, n.err().unwrap_or(0)].map(record::bare)));
     }
-    let mut r: Vec<[u8; 512]> = blocks.into_values().collect();
-    let k = dice.below(r.len().max(1));
-    match dice.below(60) {
-        0 => r.insert(k, block(if packed { 5 } else { 3 }, b"", b"")),
-        1 if !r.is_empty() => r[k][300] ^= 1,
-        2 => r.reverse(),
-        _ => {}
-    }
-    let mut bytes = r.concat();
-    match dice.below(400) {
-        0 | 1 => bytes.push(0),
-        2 => bytes.resize(4097 * 512, 0),
-        _ => {}
-    }
-    bytes
-}
-
-fn sought(dice: &mut Dice) -> Vec<u8> {
-    match dice.below(40) {
-        0 => b"a..b".to_vec(),
-        1 => vec![b'a'; 251],
-        2 => vec![b'a'; 247],
-        3 => b"nowhere".to_vec(),
-        4 => b"c/0".to_vec(),
-        _ => dice.of(&NAMES).as_bytes().to_vec(),
-    }
-}
-
-fn tell(what: &str, counts: &BTreeMap<u32, usize>) {
-    let all: usize = counts.values().sum();
-    let each: Vec<String> = counts.iter().map(|(k, n)| format!("{k}: {n}")).collect();
-    println!("{what}: {all} answers, all three agree ({})", each.join(", "));
-}
-
-fn snapshots() {
-    let mut dice = Dice(7);
-    let (mut finds, mut follows) = (BTreeMap::new(), BTreeMap::new());
-    let (mut listings, mut listed) = (0, 0);
-    for _ in 0..10_000 {
-        let (worktree, common, packed) = (small(&mut dice, false), small(&mut dice, false), small(&mut dice, true));
-        let s = &Snapshot { worktree: &worktree, common: (dice.below(4) != 0).then_some(&common), packed: &packed };
-        for _ in 0..10 {
-            let name = &sought(&mut dice)[..];
-            let space = space(&mut dice);
-            let space = space.as_deref();
-            let what = || format!("{} in {space:?}", String::from_utf8_lossy(name));
-            let k = same(what, [proved::find(s, name, space), twin::find(s, name, space), natural::find(s, name, space)]);
-            *finds.entry(k).or_insert(0) += 1;
-            let k = same(what, [proved::follow(s, name, space), twin::follow(s, name, space), natural::follow(s, name, space)]);
-            *follows.entry(k).or_insert(0) += 1;
-        }
-        for _ in 0..4 {
-            let steps = dice.below(48);
-            listed += same(|| format!("{steps} steps"), [proved::list(s, steps), twin::list(s, steps), natural::list(s, steps)]);
-            listings += 1;
-        }
-    }
-    tell("find", &finds);
-    tell("follow", &follows);
-    println!("list: {listings} listings, {listed} references, all three agree");
 }
 
 pub fn all() {
-    regions(true);
-    regions(false);
-    snapshots();
+    let mut dice = Dice::new(7);
+    let mut counts: [Counts; 5] = Default::default();
+    let [fits, finds, follows, lists, checks] = &mut counts;
+    changed(false, &mut crate::references::ids(1, 16), fits);
+    changed(true, &mut crate::references::ids(4, 16), fits);
+    for _ in 0..10_000 {
+        let (worktree, common, packed) = (small::region(&mut dice, false), small::region(&mut dice, false), small::region(&mut dice, true));
+        let s = &Snapshot { worktree: &worktree, common: dice.percent(75).then_some(&common), packed: &packed };
+        (0..10).for_each(|_| searches(s, &mut dice, finds, follows));
+        (0..4).for_each(|_| listings(s, &mut dice, lists));
+        (0..10).for_each(|_| names(&mut dice, checks));
+    }
+    for (what, counts) in ["fitness", "find", "follow", "list", "names"].into_iter().zip(&counts) {
+        counts.tell(what);
+    }
 }
