@@ -150,40 +150,40 @@ static void show_fitness(const struct snapshot *s) {
     putchar('\n');
 }
 
-static void show_found(const struct snapshot *s, struct text name, struct text space) {
-    cosvint_answer a;
-    uint32_t number = cosvint_find(REGIONS(s), name.bytes, name.length, space.bytes, space.length, space.there,
-                                   (uint8_t *)&a, sizeof a);
+/* What following reached. */
+static void print_object(const cosvint_answer *a) {
+    print_bytes(a->id, sizeof a->id);
+    fputs(" by ", stdout);
+    print_bytes(a->name, a->name_length);
+}
+
+static void show_answer(struct text name, const char *sign, const cosvint_answer *a,
+                        void (*print)(const cosvint_answer *)) {
     print_bytes(name.bytes, name.length);
-    fputs(": ", stdout);
-    if (number == COSVINT_DONE) {
-        print_reference(&a);
-    } else if (number == COSVINT_NOTHING) {
+    fputs(sign, stdout);
+    if (a->number == COSVINT_DONE) {
+        print(a);
+    } else if (a->number == COSVINT_NOTHING) {
         fputs("not there", stdout);
     } else {
-        print_refusal(&a);
+        print_refusal(a);
     }
     putchar('\n');
+}
+
+static void show_found(const struct snapshot *s, struct text name, struct text space) {
+    cosvint_answer a;
+    cosvint_find(REGIONS(s), name.bytes, name.length, space.bytes, space.length, space.there, (uint8_t *)&a, sizeof a);
+    show_answer(name, ": ", &a, print_reference);
 }
 
 /* Is there a commit that the name leads to? */
 static bool show_reached(const struct snapshot *s, struct text name, struct text space) {
     cosvint_answer a;
-    uint32_t number = cosvint_follow(REGIONS(s), name.bytes, name.length, space.bytes, space.length, space.there,
-                                     (uint8_t *)&a, sizeof a);
-    print_bytes(name.bytes, name.length);
-    fputs(" leads to: ", stdout);
-    if (number == COSVINT_DONE) {
-        print_bytes(a.id, sizeof a.id);
-        fputs(" by ", stdout);
-        print_bytes(a.name, a.name_length);
-    } else if (number == COSVINT_NOTHING) {
-        fputs("not there", stdout);
-    } else {
-        print_refusal(&a);
-    }
-    putchar('\n');
-    return number == COSVINT_DONE;
+    cosvint_follow(REGIONS(s), name.bytes, name.length, space.bytes, space.length, space.there, (uint8_t *)&a,
+                   sizeof a);
+    show_answer(name, " leads to: ", &a, print_object);
+    return a.number == COSVINT_DONE;
 }
 
 /* The opening has checked the sizes, so that no step gives 1 or 2 and each takes a block until the listing ends. */

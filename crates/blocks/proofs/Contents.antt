@@ -11,11 +11,14 @@ use lib.ListN.{length, take, drop, getD, drop-of-length-le, length-drop}
 use lib.Seq.{drop-cons}
 use Rattle.names.specs.Bytes.{Bytes, bytes, if_then_else_, same, starts-with, every, after}
 use Rattle.names.specs.Name.{longest, fits}
+use Rattle.names.specs.Means.{if-fits}
 use Rattle.names.specs.WellFormed.{complete}
 use Rattle.names.proofs.Tests.{and-left, none≢some, if-case}
 use Rattle.blocks.specs.Layout.{longest-content}
-use Rattle.blocks.specs.Content.{object, symbolic, Reading, reads, unreadable, is-hex, lower-case, ends-line, skip-spaces, line, begins-hex, read-target, read-id, read}
-use Rattle.blocks.specs.Means.{id-in, is-id, parsed, name-reading, within-name}
+use Rattle.blocks.specs.Content.{object, symbolic, Reading, reads, unreadable, is-hex, lower-case, ends-line, skip-spaces, line, target-name-in, begins-hex, read-target, read-id, read}
+use Rattle.blocks.specs.Means.{id-in, is-id, parsed, kind-reading, kind-held, within-name}
+use Rattle.blocks.specs.declared.decode.TargetKind.{TargetKind}
+use Rattle.blocks.specs.declared.decode.TargetKind.the-variants.{Object, Symbolic, Refused}
 use Rattle.blocks.specs.declared.decode.State.{State}
 use Rattle.blocks.specs.declared.decode.State.the-variants.{Id, UnvalidatedPath, Neither}
 use Rattle.blocks.proofs.Ids.{id-whole}
@@ -28,13 +31,9 @@ pub digit-past : (s : Bytes) (i : ℕ) → length s ≤ i → false ≡ begins-h
 unfolding begins-hex
 digit-past s i h = rw (drop-of-length-le s h)
 
--- the path of a symbolic content
-abbrev pub path-of : Bytes → Bytes
-path-of s = line (skip-spaces (after (bytes "ref: ") s))
-
-pub path-short : (s : Bytes) → length s ≤ length (bytes "ref: ") → [] ≡ path-of s
+pub target-short : (s : Bytes) → length s ≤ length (bytes "ref: ") → [] ≡ target-name-in s
 unfolding line skip-spaces
-path-short s h = rw (drop-of-length-le s h)
+target-short s h = rw (drop-of-length-le s h)
 
 -- ---- by state
 
@@ -48,7 +47,7 @@ module _ (width : ℕ) (s : Bytes) where
 
   -- what each state says of the content
   abbrev Says : State → Type 0
-  Says UnvalidatedPath = read width s ≡ read-target (path-of s)
+  Says UnvalidatedPath = read width s ≡ read-target (target-name-in s)
   Says Id = (read width s ≡ reads (object (lower-case (take width s)))) × (width ≤ length s)
   Says Neither = read width s ≡ unreadable 10
 
@@ -67,7 +66,7 @@ module _ (width : ℕ) (s : Bytes) where
   says : Says (parsed width s)
   says = by-state Says path-says id-says neither-says
 
-  pub read-path : UnvalidatedPath ≡ parsed width s → read width s ≡ read-target (path-of s)
+  pub read-path : UnvalidatedPath ≡ parsed width s → read width s ≡ read-target (target-name-in s)
   read-path e = rw (← e) at says
 
   pub read-object : Id ≡ parsed width s → read width s ≡ reads (object (id-in width s))
@@ -78,36 +77,34 @@ module _ (width : ℕ) (s : Bytes) where
 
 -- ---- targets
 
-pub target-complete : (t : Bytes) → complete t ≡ true → within-name (read-target t) ≡ name-reading t
+pub target-complete : (t : Bytes) → complete t ≡ true → read-target t ≡ reads (symbolic t)
 unfolding read-target
 target-complete t e = rw e
 
-pub target-unsupported : (t : Bytes) → complete t ≡ false → same t (bytes "refs/heads/.invalid") ≡ true → within-name (read-target t) ≡ unreadable 12
+pub target-unsupported : (t : Bytes) → complete t ≡ false → same t (bytes "refs/heads/.invalid") ≡ true → read-target t ≡ unreadable 12
 unfolding read-target
 target-unsupported t e f = rw (e, f)
 
-pub target-incomplete : (t : Bytes) → complete t ≡ false → same t (bytes "refs/heads/.invalid") ≡ false → within-name (read-target t) ≡ unreadable 11
+pub target-incomplete : (t : Bytes) → complete t ≡ false → same t (bytes "refs/heads/.invalid") ≡ false → read-target t ≡ unreadable 11
 unfolding read-target
 target-incomplete t e f = rw (e, f)
 
--- a name made of t, or refused
-module _ (ok : Bool) (c t : Bytes) (made : (if ok then some c else none) ≡ (if fits t then some t else none)) where
-  some-eq : some c ≡ some t → c ≡ t
-  some-eq e = cc
+-- c was made of t, if a name can hold t: then kind, id and c say what kind, id and t do, as far as a struct can hold it
+pub name-made : (ok : Bool) (c t : Bytes) → (if ok then some c else none) ≡ if-fits t → (k : TargetKind) (id : Bytes) → kind-reading (kind-held ok k) id c ≡ within-name (kind-reading k id t)
+name-made ok c t made k id = go ok (fits t) refl made k
+  where
+    some-eq : some c ≡ some t → c ≡ t
+    some-eq e = cc
 
-  pub name-made : ok ≡ true → reads (symbolic c) ≡ name-reading t
-  name-made e = go (fits t) refl
-    where
-      go : (f : Bool) → fits t ≡ f → reads (symbolic c) ≡ name-reading t
-      go true f = rw (f, some-eq (rw (e, f) at made))
-      go false f = none≢some (sym (rw (e, f) at made))
-
-  pub name-refused : ok ≡ false → unreadable 11 ≡ name-reading t
-  name-refused e = go (fits t) refl
-    where
-      go : (f : Bool) → fits t ≡ f → unreadable 11 ≡ name-reading t
-      go true f = none≢some (rw (e, f) at made)
-      go false f = rw f
+    go : (o f : Bool) → fits t ≡ f → (if o then some c else none) ≡ (if f then some t else none) → (k : TargetKind) → kind-reading (kind-held o k) id c ≡ within-name (kind-reading k id t)
+    go true true f e Object = refl
+    go true true f e Symbolic = rw (f, some-eq e)
+    go true true f e (Refused why) = refl
+    go true false f e k = none≢some (sym e)
+    go false true f e k = none≢some e
+    go false false f e Object = refl
+    go false false f e Symbolic = rw f
+    go false false f e (Refused why) = refl
 
 -- ---- a content of a block
 
@@ -129,14 +126,15 @@ line-le (b ∷ s) = go (ends-line b) (line-le s)
     go true ih = omega arith
     go false ih = omega arith
 
-path-le : (s : Bytes) → length (path-of s) ≤ length s
-path-le s =
+-- what a content names is no longer than the content
+pub target-le : (s : Bytes) → length (target-name-in s) ≤ length s
+target-le s =
     let d = length-drop (length (bytes "ref: ")) s in
     let a = spaces-le (after (bytes "ref: ") s) in
     let b = line-le (skip-spaces (after (bytes "ref: ") s)) in
     omega arith
 
--- its target is a name's length at most
+-- a name can hold its target
 pub read-held : (width : ℕ) (s : Bytes) → length s ≤ longest-content → within-name (read width s) ≡ read width s
 unfolding read read-target read-id
 read-held width s h = if-case Held (starts-with (bytes "ref: ") s) (λ a. target) (λ a. if-case Held (is-id width s) (λ b. refl) (λ b. refl))
@@ -144,9 +142,9 @@ read-held width s h = if-case Held (starts-with (bytes "ref: ") s) (λ a. target
     Held : Reading → Type 0
     Held r = within-name r ≡ r
 
-    short : fits (path-of s) ≡ true
-    short = le-leb (length (path-of s)) longest (omega (arith, path-le s))
+    short : fits (target-name-in s) ≡ true
+    short = le-leb (length (target-name-in s)) longest (omega (arith, target-le s))
 
-    target : Held (read-target (path-of s))
+    target : Held (read-target (target-name-in s))
     target =
-        if-case Held (complete (path-of s)) (λ a. rw short) (λ a. if-case Held (same (path-of s) (bytes "refs/heads/.invalid")) (λ b. refl) (λ b. refl))
+        if-case Held (complete (target-name-in s)) (λ a. rw short) (λ a. if-case Held (same (target-name-in s) (bytes "refs/heads/.invalid")) (λ b. refl) (λ b. refl))

@@ -45,6 +45,10 @@ unfoldable pub line : Bytes → Bytes
 line [] = []
 line (b ∷ s) = if ends-line b then [] else b ∷ line s
 
+-- what stands behind `ref: ` and the spaces, up to the line's end
+abbrev pub target-name-in : Bytes → Bytes
+target-name-in s = line (skip-spaces (after (bytes "ref: ") s))
+
 -- "target not complete, 12 apart"; "target `refs/heads/.invalid`"
 unfoldable pub read-target : Bytes → Reading
 read-target t =
@@ -67,4 +71,4 @@ read-id width s =
 
 -- `try_from_path`
 unfoldable pub read : ℕ → Bytes → Reading
-read width s = if starts-with (bytes "ref: ") s then read-target (line (skip-spaces (after (bytes "ref: ") s))) else read-id width s
+read width s = if starts-with (bytes "ref: ") s then read-target (target-name-in s) else read-id width s

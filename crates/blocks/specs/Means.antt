@@ -13,6 +13,7 @@ use Rattle.names.specs.Means.{content}
 use Rattle.blocks.specs.Layout.{block-size, longest-content, sum-at}
 use Rattle.blocks.specs.Block.{Region, two-bytes, block-kind, name-length, content-length, block-name, block-content}
 use Rattle.blocks.specs.Content.{Target, object, symbolic, Reading, reads, unreadable, is-hex, lower-case, begins-hex}
+pub use Rattle.blocks.specs.Content.{target-name-in}
 use Rattle.blocks.specs.Entry.{Entry, damaged, failed, loose, unread, packed-record, entry-of, entries}
 use Rattle.blocks.specs.Fitness.{Flaw, flaw-or}
 use Rattle.blocks.specs.Snapshot.{Snapshot}
@@ -140,18 +141,25 @@ refusal-number Incomplete = 11
 refusal-number Unsupported = 12
 
 -- what the kind says, with the id and the name beside it
-abbrev pub reading : TargetKind → Bytes → Bytes → Reading
-reading Object id name = reads (object id)
-reading Symbolic id name = reads (symbolic name)
-reading (Refused why) id name = unreadable (refusal-number why)
+abbrev pub kind-reading : TargetKind → Bytes → Bytes → Reading
+kind-reading Object id name = reads (object id)
+kind-reading Symbolic id name = reads (symbolic name)
+kind-reading (Refused why) id name = unreadable (refusal-number why)
 
 -- what the struct says
 abbrev pub reading-of : decoded.Target → Reading
-reading-of t = reading (t .kind) (t .id .digits) (content (t .name))
+reading-of t = kind-reading (t .kind) (t .id .digits) (content (t .name))
 
 -- a target that no name can hold is refused 11; no content of a block has one
 abbrev pub name-reading : Bytes → Reading
 name-reading t = if fits t then reads (symbolic t) else unreadable 11
+
+-- the kind of a target, by whether a name holds what it names: a symbolic one that none holds is refused 11
+abbrev pub kind-held : Bool → TargetKind → TargetKind
+kind-held true kind = kind
+kind-held false Object = Object
+kind-held false Symbolic = Refused Incomplete
+kind-held false (Refused why) = Refused why
 
 -- a reading that the struct can hold
 abbrev pub within-name : Reading → Reading

@@ -74,7 +74,8 @@ fn full(x: u16) -> u32
     x as u32
 }
 
-// The weighted sum of a part of a block whose first byte has the position k.
+// The weighted sum of a part of a block whose first byte has the position k. A weight is below 512, so the remainder changes nothing:
+// it tells the compiler that the weight is small, and products of small factors are made several at a time.
 fn part_sum(s: &[u8], k: u16) -> u32
     requires { ⌜ (length (now s) ≤ longest) × (k ≤ content-at) ⌝ }
     ensures { λ r. ⌜ (r ≡ weighted k (now (s .entry))) × (r ≤ 33000000) ⌝ }
@@ -82,7 +83,7 @@ fn part_sum(s: &[u8], k: u16) -> u32
     let mut sum: u32 = 0;
     let mut i: usize = 0;
     while i < s.len() {
-        let w = k + (i as u16) + 1;
+        let w = (k + (i as u16) + 1) % BLOCK_SIZE as u16;
         sum += full(w) * wide(s[i]);
         i += 1;
     }

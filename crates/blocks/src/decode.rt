@@ -1,10 +1,9 @@
 // What the content of a loose file says (loose/reference/decode.rs).
 ghost use mathlib.Core.Path.{_≡_};
-ghost use Prim.Native.Nat.{ℕ};
 ghost use lib.ListN.{drop};
-ghost use Rattle.names.specs.Bytes.{bytes, after};
-ghost use Rattle.blocks.specs.Content.{ends-line, skip-spaces, line, begins-hex, reads, unreadable, object, read-target, read};
-ghost use Rattle.blocks.specs.Means.{id-width, id-in, is-id, parsed, refusal-number, reading-of, within-name, name-reading};
+ghost use Rattle.names.specs.Bytes.{Bytes};
+ghost use Rattle.blocks.specs.Content.{ends-line, skip-spaces, line, target-name-in, begins-hex, read-target, read};
+ghost use Rattle.blocks.specs.Means.{id-width, id-in, is-id, parsed, refusal-number, kind-reading, reading-of, kind-held, within-name};
 use crate::parse::ID_WIDTH;
 use crate::parse::Id;
 use crate::parse::hex_hash;
@@ -13,7 +12,6 @@ use crate::parse::is_hex_digit;
 use names::bytes::equal;
 use names::bytes::starts_with;
 use names::name::Name;
-use names::name::empty;
 use names::name::from_bytes;
 use names::validate::complete;
 
@@ -44,7 +42,7 @@ pub enum TargetKind {
     Refused(Refusal),
 }
 
-// A target: its kind, and beside it the id of an object or the name of a symbolic one.
+// A target: its kind, and beside it the id, which counts for an object, and the name, which counts for a symbolic one.
 pub struct Target {
     pub kind: TargetKind,
     pub id: Id,
@@ -127,9 +125,9 @@ fn parse(s: &[u8]) -> State
     State::Neither
 }
 
-// The path that a symbolic content names.
-fn path(s: &[u8]) -> &[u8]
-    ensures { λ r. ⌜ now r ≡ line (skip-spaces (after (bytes "ref: ") (now (s .entry)))) ⌝ }
+// What a symbolic content names.
+pub fn target_name(s: &[u8]) -> &[u8]
+    ensures { λ r. ⌜ now r ≡ target-name-in (now (s .entry)) ⌝ }
 {
     if s.len() < REF_LENGTH {
         return &s[0..0];
@@ -137,67 +135,52 @@ fn path(s: &[u8]) -> &[u8]
     first_line(after_spaces(&s[REF_LENGTH..]))
 }
 
-fn refused(why: Refusal) -> Target
-    ensures { λ r. ⌜ reading-of r ≡ unreadable (refusal-number why) ⌝ }
-{
-    let id = id_of(b"");
-    let name = empty();
-    Target {
-        kind: TargetKind::Refused(why),
-        id,
-        name,
-    }
-}
-
-fn object(s: &[u8]) -> Target
-    ensures { λ r. ⌜ reading-of r ≡ reads (object (id-in id-width (now (s .entry)))) ⌝ }
-{
-    let id = id_of(s);
-    let name = empty();
-    Target {
-        kind: TargetKind::Object,
-        id,
-        name,
-    }
-}
-
-// A symbolic target, if a name holds it.
-fn symbolic(t: &[u8]) -> Target
-    ensures { λ r. ⌜ reading-of r ≡ name-reading (now (t .entry)) ⌝ }
-{
-    let m = from_bytes(t);
-    let id = id_of(b"");
-    let name = m.name;
-    if m.ok {
-        return Target {
-            kind: TargetKind::Symbolic,
-            id,
-            name,
-        };
-    }
-    refused(Refusal::Incomplete)
-}
-
-fn validated(t: &[u8]) -> Target
-    ensures { λ r. ⌜ reading-of r ≡ within-name (read-target (now (t .entry))) ⌝ }
+// The kind of a symbolic content that names t. The id beside it does not count, so it is any.
+fn validated(t: &[u8]) -> TargetKind
+    ensures { λ r. ⌜ ((id : Bytes) → kind-reading r id (now (t .entry)) ≡ read-target (now (t .entry))) ⌝ }
 {
     if complete(t) {
-        return symbolic(t);
+        return TargetKind::Symbolic;
     }
     if equal(t, b"refs/heads/.invalid") {
-        return refused(Refusal::Unsupported);
+        return TargetKind::Refused(Refusal::Unsupported);
     }
-    refused(Refusal::Incomplete)
+    TargetKind::Refused(Refusal::Incomplete)
+}
+
+// What kind of target a loose file's content gives, or why it is refused. Its id or its name is a part of the content.
+pub fn target_kind(s: &[u8]) -> TargetKind
+    ensures { λ r. ⌜ kind-reading r (id-in id-width (now (s .entry))) (target-name-in (now (s .entry))) ≡ read id-width (now (s .entry)) ⌝ }
+{
+    let state = parse(s);
+    match state {
+        State::UnvalidatedPath => validated(target_name(s)),
+        State::Id => TargetKind::Object,
+        State::Neither => TargetKind::Refused(Refusal::Unreadable),
+    }
+}
+
+// The kind of a target, by whether a name holds what it names: a symbolic one that none holds is refused.
+fn if_held(kind: TargetKind, held: bool) -> TargetKind
+    ensures { λ r. ⌜ r ≡ kind-held held kind ⌝ }
+{
+    if held {
+        return kind;
+    }
+    match kind {
+        TargetKind::Object => TargetKind::Object,
+        TargetKind::Symbolic => TargetKind::Refused(Refusal::Incomplete),
+        TargetKind::Refused(why) => TargetKind::Refused(why),
+    }
 }
 
 // The target that a loose file's content gives, or why it is refused.
 pub fn try_from_path(s: &[u8]) -> Target
     ensures { λ r. ⌜ reading-of r ≡ within-name (read id-width (now (s .entry))) ⌝ }
 {
-    let state = parse(s);
-    match state {
-        State::UnvalidatedPath => validated(path(s)),
-        State::Id => object(s),
-        State::Neither => refused(Refusal::Unreadable),
-    }
+    let m = from_bytes(target_name(s));
+    let kind = if_held(target_kind(s), m.ok);
+    let id = id_of(s);
+    let name = m.name;
+    Target { kind, id, name }
 }

@@ -1,34 +1,30 @@
 -- What calls give: reports in outputs that have room, and outputs that are too short.
 use mathlib.Core.Path.{_≡_, refl, ap, sym, _∙_}
-use Prim.Native.Nat.{ℕ, _+_, _≤_, _<_}
+use Prim.Native.Nat.{ℕ, _≤_, _<_}
 use native.Mathlib.Omega.{arith}
 use mathlib.Core.Bool.{true, false, false≢true}
-use mathlib.Core.List.{_++_}
 use mathlib.Core.Option.{Option, none, some}
-use lib.ListN.{length, drop, replicate, length-append, length-replicate}
+use lib.ListN.{length, length-append, length-replicate}
 use lib.Dec.{leb}
 use borrow.Author.Tests.{le-leb, lt-leb}
 use Rattle.names.specs.Bytes.{Bytes}
-use Rattle.names.specs.Check.{Check, Checked, checked}
-use Rattle.blocks.specs.Fitness.{Flaw}
+use Rattle.names.specs.Check.{Check, checked}
 use Rattle.blocks.specs.Snapshot.{Snapshot, store, size-check, store-flaw}
 use Rattle.blocks.specs.Means.{id-width, flaw-of, sizes-check}
 use Rattle.blocks.specs.declared.fitness.Sizes.{Sizes}
 use Rattle.blocks.specs.declared.fitness.Sizes.the-variants.{Right}
 use Rattle.blocks.specs.declared.fitness.Verdict.{Verdict}
 use Rattle.refs.specs.Answer.{Reference, Answer}
-use Rattle.refs.specs.Search.{Searched, Result, answers, turned-away, unfit, after-checks}
+use Rattle.refs.specs.Search.{Searched, Result, answers, turned-away, unfit}
 use Rattle.refs.specs.Means.{gated, answer-only}
-use Rattle.refs.specs.Promises.{passed}
+use Rattle.refs.specs.Means.{passed}
 use Rattle.refs.specs.declared.check.Gate.{Gate}
 use Rattle.refs.specs.declared.check.Gate.the-variants as gate
-use Rattle.output.specs.Pasted.{pasted}
-use Rattle.output.proofs.Pastes.{pasted-front}
-use Rattle.capi.specs.Report.{Report, report, unfit-report, result-report, answer-report, searched-report, bare-report, fitness-report, check-number, checked-number, too-short}
-use Rattle.capi.specs.Layout.{word, padded, reference-size, reference-bytes, reference-field, report-size, report-bytes}
+use Rattle.capi.specs.Report.{Report, report, result-report, answer-report, searched-report, fitness-report, check-number, checked-number, too-short}
+use Rattle.capi.specs.Layout.{reference-size, reference-bytes, reference-field, report-size, report-bytes}
 use Rattle.capi.specs.Output.{number-given, output-given, Given}
 use Rattle.capi.specs.Promises.{Reported, turned-report, flaw-report}
-use Rattle.capi.proofs.Fields.{low-first-length, padded-length}
+use Rattle.capi.proofs.Fields.{low-first-length, padded-length, in-front}
 
 -- ---- room
 
@@ -38,15 +34,9 @@ reference-length none = length-replicate {A = ℕ} reference-size 0
 reference-length (some r) = simp (length-append, low-first-length, padded-length) refl
 
 -- a report has its size, whatever it reports
-report-length : (r : Report) → length (report-bytes r) ≡ report-size
+pub report-length : (r : Report) → length (report-bytes r) ≡ report-size
 unfolding report-bytes
 report-length r = simp (length-append, low-first-length) (omega (arith, reference-length (r .reference)))
-
--- what is written stands in front, where there is room
-pub report-front : (r : Report) (out after : Bytes) → report-size ≤ length out → after ≡ pasted out 0 (report-bytes r) → after ≡ report-bytes r ++ drop report-size out
-report-front r out after h e =
-    let size = report-length r in
-    e ∙ pasted-front out (report-bytes r) (rw size h) ∙ ap (λ (k : ℕ). report-bytes r ++ drop k out) size
 
 -- an output that is too short stays
 pub too-short-given : (r : Report) (out : Bytes) → length out < report-size → Given r out out too-short
@@ -58,7 +48,7 @@ pub report-given : (r : Report) {q : Report} {out after : Bytes} {n : ℕ} → r
 unfolding number-given output-given
 report-given r {q} {out} {after} {n} h e p =
     let room : leb report-size (length out) ≡ true = le-leb report-size (length out) h in
-    record { number = rw room (rw e at (p .number)); output = rw room (report-front r out after h (rw e at (p .bytes))) }
+    record { number = rw room (rw e at (p .number)); output = rw room (in-front (report-bytes r) (report-length r) h (rw e at (p .bytes))) }
 
 -- ---- calls
 
@@ -91,16 +81,10 @@ search-turned g a x e h = turned answer-report g a (answer-only x) e h ∙ only-
 pub search-passed : (g : Gate) (a : Answer) (x : Result Searched) → gated g a ≡ answer-only x → passed g ≡ true → answer-report a ≡ result-report searched-report x
 search-passed g a x e h = let-pass answer-report g a (answer-only x) e h ∙ only-answer x
 
-flaw-is : (f : Option Flaw) → flaw-report f ≡ result-report bare-report (after-checks none f (report 0 none))
-flaw-is none = refl
-flaw-is (some f) = refl
-
 -- fitness, by its checks
 pub fit-or-flaw : (s : Snapshot) (z : Sizes) (v : Verdict) → sizes-check z ≡ size-check s → z ≡ Right → flaw-of v ≡ store-flaw (store id-width s)
     → flaw-report (flaw-of v) ≡ fitness-report s
-fit-or-flaw s z v h e k =
-    let right : size-check s ≡ none = sym h ∙ ap sizes-check e in
-    rw (right, ← k) (flaw-is (flaw-of v))
+fit-or-flaw s z v h e k = let right : size-check s ≡ none = sym h ∙ ap sizes-check e in rw (right, ← k) refl
 
 pub size-refused : (s : Snapshot) (z w : Sizes) (k : ℕ) → sizes-check z ≡ size-check s → z ≡ w → sizes-check w ≡ some k → report k none ≡ fitness-report s
 size-refused s z w k h e m = let wrong : size-check s ≡ some k = sym h ∙ ap sizes-check e ∙ m in rw wrong refl

@@ -1,14 +1,13 @@
 -- Fields of a record, and writes of one field behind the other.
 use mathlib.Core.Path.{_≡_, refl, ap, sym, _∙_}
-use Prim.Native.Nat.{ℕ, zero, suc, _+_, _-_, _*_, _≤_, _<_, _/_, _%_}
+use Prim.Native.Nat.{ℕ, zero, suc, _+_, _≤_, _/_}
 use native.Mathlib.Omega.{arith}
-use mathlib.Core.Bool.{Bool, true, false}
-use mathlib.Core.List.{[], _∷_, _++_, append-nil}
+use mathlib.Core.List.{[], _∷_, _++_}
 use lib.ListN.{length, take, drop, replicate, length-take, length-append, length-replicate}
-use lib.Seq.{take-at}
-use Rattle.names.specs.Bytes.{Bytes, if_then_else_}
+use Rattle.names.specs.Bytes.{Bytes}
+use Rattle.names.specs.Means.{held}
 use Rattle.output.specs.Pasted.{pasted}
-use Rattle.output.proofs.Pastes.{pasted-both, pasted-over}
+use Rattle.output.proofs.Pastes.{pasted-both, pasted-over, pasted-front}
 use Rattle.capi.specs.Layout.{low-first, padded}
 use Rattle.capi.specs.Promises.{Wrote}
 
@@ -30,20 +29,11 @@ take-zeros zero m h = refl
 take-zeros (suc n) zero h = absurd (omega (arith, h))
 take-zeros (suc n) (suc m) h = ap (λ (l : Bytes). 0 ∷ l) (take-zeros n m (omega (arith, h)))
 
--- no text is zeros
-pub padded-none : (width : ℕ) → padded width [] ≡ replicate width 0
-unfolding padded
-padded-none width = take-zeros width width (omega arith)
-
--- a text that is as long as its field
-pub padded-whole : (width : ℕ) (s : Bytes) → length s ≡ width → padded width s ≡ s
-unfolding padded
-padded-whole width s h = take-at s (replicate width 0) width h
-
-over-zeros : (width m : ℕ) (s : Bytes) → length s ≤ width → width ≤ m + length s → take width (s ++ replicate m 0) ≡ s ++ drop (length s) (replicate width 0)
-over-zeros width m [] h k = take-zeros width m (omega (arith, k))
-over-zeros zero m (x ∷ s) h k = absurd (omega (arith, h))
-over-zeros (suc width) m (x ∷ s) h k = ap (λ (l : Bytes). x ∷ l) (over-zeros width m s (omega (arith, h)) (omega (arith, k)))
+-- its first bytes, over zeros
+over-zeros : (width m : ℕ) (s : Bytes) → width ≤ m + length s → take width s ++ drop (length (take width s)) (replicate width 0) ≡ take width (s ++ replicate m 0)
+over-zeros zero m s h = refl
+over-zeros (suc width) m [] h = sym (take-zeros (suc width) m (omega (arith, h)))
+over-zeros (suc width) m (x ∷ s) h = ap (λ (l : Bytes). x ∷ l) (over-zeros width m s (omega (arith, h)))
 
 -- ---- writes
 
@@ -51,16 +41,14 @@ over-zeros (suc width) m (x ∷ s) h k = ap (λ (l : Bytes). x ∷ l) (over-zero
 pub wrote-both : {b m a s t : Bytes} {at k : ℕ} → Wrote b at s m → Wrote m k t a → k ≡ at + length s → Wrote b at (s ++ t) a
 wrote-both {b} {m} {a} {s} {t} {at} {k} p q e = record { bytes = q .bytes ∙ rw (p .bytes, e) (pasted-both b at s t) }
 
--- a text over zeros
-pub over : (b : Bytes) (at width : ℕ) (m s a : Bytes) → m ≡ pasted b at (replicate width 0) → a ≡ pasted m at s → length s ≤ width → Wrote b at (padded width s) a
-unfolding padded
-over b at width m s a p q h =
-    let room : length s ≤ length (replicate {A = ℕ} width 0) = simp length-replicate h in
-    record { bytes = q ∙ rw p (pasted-over b at (replicate width 0) s room) ∙ ap (pasted b at) (sym (over-zeros width width s h (omega arith))) }
+-- the first bytes of a text over zeros
+pub over : (b : Bytes) (at width : ℕ) (m s t a : Bytes) → m ≡ pasted b at (replicate width 0) → t ≡ held s width → a ≡ pasted m at t → Wrote b at (padded width s) a
+unfolding padded held
+over b at width m s t a p h q =
+    let room : length t ≤ length (replicate {A = ℕ} width 0) = rw h (simp (length-replicate, length-take) (omega arith)) in
+    let text : t ++ drop (length t) (replicate width 0) ≡ take width (s ++ replicate width 0) = rw h (over-zeros width width s (omega arith)) in
+    record { bytes = q ∙ rw p (pasted-over b at (replicate width 0) t room) ∙ ap (pasted b at) text }
 
--- a field that is filled, and one that is left blank
-pub filled : (b : Bytes) (at width : ℕ) (t : Bool) (s a : Bytes) → t ≡ true → length s ≡ width → a ≡ pasted b at s → Wrote b at (padded width (if t then s else [])) a
-filled b at width t s a e h p = rw e (record { bytes = p ∙ ap (pasted b at) (sym (padded-whole width s h)) })
-
-pub blank : (b : Bytes) (at width : ℕ) (t : Bool) (s a : Bytes) → t ≡ false → a ≡ pasted b at (replicate width 0) → Wrote b at (padded width (if t then s else [])) a
-blank b at width t s a e p = rw e (record { bytes = p ∙ ap (pasted b at) (sym (padded-none width)) })
+-- at the front, where there is room
+pub in-front : (s : Bytes) {b a : Bytes} {size : ℕ} → length s ≡ size → size ≤ length b → Wrote b 0 s a → a ≡ s ++ drop size b
+in-front s {b} e h p = p .bytes ∙ pasted-front b s (rw e h) ∙ ap (λ (k : ℕ). s ++ drop k b) e

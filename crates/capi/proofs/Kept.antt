@@ -1,11 +1,11 @@
 -- A state that was written is read back as it was.
-use mathlib.Core.Path.{_≡_, refl, ap, sym, _∙_}
-use Prim.Native.Nat.{ℕ, zero, suc, _+_, _*_, _≤_, _<_, _/_, _%_}
+use mathlib.Core.Path.{_≡_, refl, _∙_}
+use Prim.Native.Nat.{ℕ, zero, suc, _+_, _*_, _≤_, _<_, _/_}
 use native.Mathlib.Omega.{arith}
 use mathlib.Core.Bool.{Bool, true, false, not}
 use mathlib.Core.List.{_++_}
 use lib.Dec.{eqb}
-use lib.ListN.{length, take, drop, replicate}
+use lib.ListN.{length, take, replicate}
 use lib.Seq.{take-at, take-take, take-append-seam}
 use Rattle.names.specs.Bytes.{Bytes}
 use Rattle.names.specs.Name.{longest}

@@ -1,35 +1,32 @@
 -- A listing's state as bytes, and what openings and steps give.
-use mathlib.Core.Path.{_≡_, refl, ap, sym, _∙_}
-use Prim.Native.Nat.{ℕ, _+_, _*_, _≤_, _<_}
+use mathlib.Core.Path.{_≡_, refl, sym, _∙_}
+use Prim.Native.Nat.{ℕ, _*_, _≤_, _<_}
 use native.Mathlib.Omega.{arith}
-use mathlib.Core.Bool.{true, false, not, _&&_, false≢true}
-use mathlib.Core.List.{_++_}
+use mathlib.Core.Bool.{true, false, not, false≢true}
 use mathlib.Core.Option.{none, some}
 use lib.Dec.{leb, eqb}
-use lib.ListN.{length, take, drop, length-append, length-take}
+use lib.ListN.{length, take, length-append, length-take}
+use lib.Seq.{take-all}
 use borrow.Author.Tests.{le-leb, lt-leb}
 use Rattle.names.specs.Bytes.{Bytes}
 use Rattle.names.specs.Name.{longest}
-use Rattle.names.specs.Check.{Check, Checked, checked, gives, refuses}
-use Rattle.names.specs.Means.{content, held, made-name, if-fits}
-use Rattle.names.specs.declared.name.Made.{Made}
-use Rattle.names.proofs.Held.{made-ok, made-is}
+use Rattle.names.specs.Check.{Check, Checked, checked}
+use Rattle.names.specs.Means.{held}
 use Rattle.blocks.specs.Snapshot.{Snapshot, is-there}
 use Rattle.blocks.specs.Means.{id-width}
 use Rattle.refs.specs.Run.{State, Step, step}
-use Rattle.output.proofs.Pastes.{pasted-front}
-use Rattle.capi.specs.Report.{check-number, checked-number, answer-report, too-short}
-use Rattle.capi.specs.Layout.{word, bit, padded, field, name-field, report-size, report-bytes, state-size, state-bytes, state-from}
-use Rattle.capi.specs.Output.{state-over, opening-number, opening-state, OpenGiven, step-number, step-state, step-output, StepGiven}
+use Rattle.capi.specs.Report.{check-number, answer-report, too-short}
+use Rattle.capi.specs.Layout.{word-size, word, bit, padded, field, name-field, report-size, report-bytes, expansion-at, state-size, state-bytes, state-from}
+use Rattle.capi.specs.Output.{opening-number, opening-state, OpenGiven, step-number, step-state, step-output, StepGiven}
 use Rattle.capi.specs.Promises.{Wrote, Reported}
-use Rattle.capi.proofs.Fields.{low-first-length, padded-length, wrote-both}
-use Rattle.capi.proofs.Calls.{report-front}
+use Rattle.capi.proofs.Fields.{low-first-length, padded-length, wrote-both, in-front}
+use Rattle.capi.proofs.Calls.{report-length}
 
 -- ---- writing and reading
 
-pub wrote-state : (s : State) {b m n o p q a : Bytes} → Wrote b 0 (word (s .at .worktree)) m → Wrote m 8 (word (s .at .common)) n
-    → Wrote n 16 (word (s .at .packed)) o → Wrote o 24 (word (bit (s .ended))) p → Wrote p 32 (word (length (s .expansion))) q
-    → Wrote q 40 (padded longest (s .expansion)) a → Wrote b 0 (state-bytes s) a
+pub wrote-state : (s : State) {b m n o p q a : Bytes} → Wrote b 0 (word (s .at .worktree)) m → Wrote m word-size (word (s .at .common)) n
+    → Wrote n (2 * word-size) (word (s .at .packed)) o → Wrote o (3 * word-size) (word (bit (s .ended))) p
+    → Wrote p (4 * word-size) (word (length (s .expansion))) q → Wrote q expansion-at (padded longest (s .expansion)) a → Wrote b 0 (state-bytes s) a
 unfolding state-bytes
 wrote-state s i j k l m n =
     let two = wrote-both i j (simp low-first-length (omega arith)) in
@@ -38,12 +35,10 @@ wrote-state s i j k l m n =
     let five = wrote-both four m (simp (length-append, low-first-length) (omega arith)) in
     wrote-both five n (simp (length-append, low-first-length) (omega arith))
 
--- the name made of a part that is no longer than a name
-pub made-part : (m : Made) (b s : Bytes) (l : ℕ) → made-name m ≡ if-fits s → s ≡ held (take longest b) l → content (m .name) ≡ take l (take longest b)
+-- a part that is no longer than a name, put into one
+pub filled-part : (b s : Bytes) (k l : ℕ) (n : Bytes) → held n k ≡ take longest s → s ≡ held (take longest b) l → held n k ≡ take l (take longest b)
 unfolding held
-made-part m b s l e h =
-    let small : length s ≤ longest = rw h (simp length-take (omega arith)) in
-    made-is m s e (made-ok m s e ∙ le-leb (length s) longest small) ∙ h
+filled-part b s k l n e h = e ∙ take-all longest s (rw h (simp length-take (omega arith))) ∙ h
 
 pub read-state : (b : Bytes) (w c p e l : ℕ) (n : Bytes) → w ≡ field 0 b → c ≡ field 1 b → p ≡ field 2 b → e ≡ field 3 b → l ≡ field 4 b
     → n ≡ name-field l b → record { at = record { worktree = w; common = c; packed = p }; ended = not (eqb e 0); expansion = n } ≡ state-from b
@@ -55,11 +50,6 @@ read-state b w c p e l n hw hc hp he hl hn = rw (hn, hw, hc, hp, he, hl) refl
 pub state-length : (s : State) → length (state-bytes s) ≡ state-size
 unfolding state-bytes
 state-length s = simp (length-append, low-first-length, padded-length) refl
-
-state-front : (s : State) {b a : Bytes} → state-size ≤ length b → Wrote b 0 (state-bytes s) a → a ≡ state-over s b
-state-front s {b} {a} h p =
-    let size = state-length s in
-    p .bytes ∙ pasted-front b (state-bytes s) (rw size h) ∙ ap (λ (k : ℕ). state-bytes s ++ drop k b) size
 
 -- ---- openings
 
@@ -82,7 +72,7 @@ pub open-gives : (c : Checked State) (k : Check) (st : State) {state after : Byt
 unfolding opening-number opening-state
 open-gives c none st {state} {after} h e t p =
     let room : leb state-size (length state) ≡ true = le-leb state-size (length state) h in
-    record { number = rw (room, ← e) refl; left = rw (room, ← e) (state-front st h p) }
+    record { number = rw (room, ← e) refl; left = rw (room, ← e) (in-front (state-bytes st) (state-length st) h p) }
 open-gives c (some k) st h e t p = absurd (false≢true t)
 
 -- ---- steps
@@ -111,6 +101,6 @@ step-given s st {q} {state} {out} {state-after} {out-after} {n} h k e f p r =
     let b : leb report-size (length out) ≡ true = le-leb report-size (length out) k in
     record {
       number = rw (a, b, ← f, ← e) (r .number);
-      next = rw (a, b, ← f, ← e) (state-front (q .next) h p);
-      output = rw (a, b, ← f, ← e) (report-front (answer-report (q .answer)) out out-after k (r .bytes));
+      next = rw (a, b, ← f, ← e) (in-front (state-bytes (q .next)) (state-length (q .next)) h p);
+      output = rw (a, b, ← f, ← e) (in-front (report-bytes (answer-report (q .answer))) (report-length (answer-report (q .answer))) k (r .bytes));
     }

@@ -16,7 +16,7 @@ use Rattle.refs.specs.Run.{State, step, run, open-listing}
 use Rattle.refs.proofs.ListOpens.{opened-start}
 use Rattle.refs.proofs.Positions.{AtMost, step-at-most, step-expansion}
 use Rattle.capi.specs.Report.{Report, answer-report}
-use Rattle.capi.specs.Layout.{word-size, state-size, state-bytes, state-from}
+use Rattle.capi.specs.Layout.{word-size, state-size, state-bytes}
 use Rattle.capi.specs.Output.{state-over, reports}
 use Rattle.capi.proofs.Kept.{limit, Held, state-kept}
 use Rattle.capi.proofs.States.{state-length}

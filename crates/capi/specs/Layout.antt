@@ -90,9 +90,13 @@ reference-field (some r) = reference-bytes r
 
 -- ---- a report
 
--- three numbers and a reference
+-- the reference stands behind three numbers
+abbrev pub reference-at : ℕ
+reference-at = 3 * word-size
+
+-- the numbers and the reference
 abbrev pub report-size : ℕ
-report-size = 3 * word-size + reference-size
+report-size = reference-at + reference-size
 
 -- the number, region and block, the reference
 unfoldable pub report-bytes : Report → Bytes
@@ -100,9 +104,13 @@ report-bytes r = word (r .number) ++ word (r .region) ++ word (r .block) ++ refe
 
 -- ---- a listing's state
 
--- five numbers and a name
+-- the expansion stands behind five numbers
+abbrev pub expansion-at : ℕ
+expansion-at = 5 * word-size
+
+-- the numbers and a name
 abbrev pub state-size : ℕ
-state-size = 5 * word-size + longest
+state-size = expansion-at + longest
 
 -- three positions, whether ended, the expansion's length; the expansion
 unfoldable pub state-bytes : State → Bytes
@@ -120,7 +128,7 @@ field k b = from-low-first (take word-size (drop (k * word-size) b))
 
 -- the name in a state's last field, of so many bytes, all of them where that is more
 abbrev pub name-field : ℕ → Bytes → Bytes
-name-field n b = take n (take longest (drop (5 * word-size) b))
+name-field n b = take n (take longest (drop expansion-at b))
 
 -- the state that any bytes stand for
 unfoldable pub state-from : Bytes → State

@@ -23,9 +23,13 @@ holds size out = leb size (length out)
 unfoldable pub number-given : Report → Bytes → ℕ
 number-given r out = if holds report-size out then r .number else too-short
 
--- the report at the front; what lies behind it stays, and so does an output that is too short
+-- the report at the front; what lies behind it stays
+abbrev pub report-over : Report → Bytes → Bytes
+report-over r out = report-bytes r ++ drop report-size out
+
+-- an output that is too short stays whole
 unfoldable pub output-given : Report → Bytes → Bytes
-output-given r out = if holds report-size out then report-bytes r ++ drop report-size out else out
+output-given r out = if holds report-size out then report-over r out else out
 
 -- what a call that reports gives: its number, and the output after it
 pub record Given (r : Report) (out after : Bytes) (n : ℕ) : Type 0 where
@@ -34,7 +38,7 @@ pub record Given (r : Report) (out after : Bytes) (n : ℕ) : Type 0 where
 
 -- ---- a listing
 
--- the state at the front
+-- the state at the front, in the same way
 abbrev pub state-over : State → Bytes → Bytes
 state-over st state = state-bytes st ++ drop state-size state
 
@@ -67,7 +71,7 @@ unfoldable pub step-state : Step → Bytes → Bytes → Bytes
 step-state d state out = if step-fits state out then state-over (d .next) state else state
 
 unfoldable pub step-output : Step → Bytes → Bytes → Bytes
-step-output d state out = if step-fits state out then report-bytes (answer-report (d .answer)) ++ drop report-size out else out
+step-output d state out = if step-fits state out then report-over (answer-report (d .answer)) out else out
 
 -- what a step gives: its number, the state and the output after it
 pub record StepGiven (d : Step) (state out state-after out-after : Bytes) (n : ℕ) : Type 0 where

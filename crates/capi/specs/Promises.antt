@@ -4,17 +4,17 @@ use Prim.Native.Nat.{ℕ}
 use mathlib.Core.List.{[]}
 use mathlib.Core.Bool.{Bool, true, false}
 use mathlib.Core.Option.{Option, none, some}
-use Rattle.names.specs.Bytes.{Bytes}
-use Rattle.names.specs.Means as names
-use Rattle.blocks.specs.Means as blocks
+use Rattle.names.specs.Bytes.{Bytes, if_then_else_}
 use Rattle.blocks.specs.Fitness.{Flaw}
+use Rattle.refs.specs.Answer.{Reference}
+use Rattle.refs.specs.Search.{after-checks}
+use Rattle.refs.specs.Means.{target-of, gated}
 use Rattle.refs.specs.declared.raw.Kind.{Kind}
 use Rattle.refs.specs.declared.raw.Kind.the-variants.{Object, Symbolic}
 use Rattle.refs.specs.declared.check.Gate.{Gate}
-use Rattle.refs.specs.declared.check.Gate.the-variants as gate
 use Rattle.output.specs.Pasted.{pasted}
-use Rattle.capi.specs.Report.{Report, report, unfit-report}
-use Rattle.capi.specs.Layout.{report-bytes}
+use Rattle.capi.specs.Report.{Report, result-report, passed-report}
+use Rattle.capi.specs.Layout.{kind-number, report-bytes}
 
 -- s was written over a buffer from a position on
 pub record Wrote (before : Bytes) (at : ℕ) (s after : Bytes) : Type 0 where
@@ -22,34 +22,28 @@ pub record Wrote (before : Bytes) (at : ℕ) (s after : Bytes) : Type 0 where
 
 -- a report was written at the front, and its number is answered
 pub record Reported (before : Bytes) (r : Report) (after : Bytes) (n : ℕ) : Type 0 where
-  pub bytes : after ≡ pasted before 0 (report-bytes r)
+  pub bytes : Wrote before 0 (report-bytes r) after
   pub number : n ≡ r .number
 
 -- the report of a check that turned a call away
 abbrev pub turned-report : Gate → Report
-turned-report gate.Passed = report 0 none
-turned-report gate.NotWhole = report 1 none
-turned-report gate.TooMany = report 2 none
-turned-report (gate.Refused why) = report (names.number why) none
-turned-report (gate.Unfit why r i) = unfit-report (record { number = blocks.reason-number why; region = blocks.region-of r; block = i })
+turned-report g = result-report passed-report (gated g tt)
 
 -- the report of fitness in regions of right sizes
 abbrev pub flaw-report : Option Flaw → Report
-flaw-report none = report 0 none
-flaw-report (some f) = unfit-report f
+flaw-report f = result-report passed-report (after-checks none f tt)
 
 -- ---- by a reference's kind
 
+-- whether its target is an object
 abbrev pub is-object : Kind → Bool
 is-object Object = true
 is-object Symbolic = false
 
--- its number
+-- its number, that of a target of this kind
 abbrev pub kind-code : Kind → ℕ
-kind-code Object = 1
-kind-code Symbolic = 2
+kind-code k = kind-number (target-of k [] [])
 
--- the target's name, none for an object
-abbrev pub shown-target : Kind → Bytes → Bytes
-shown-target Object n = []
-shown-target Symbolic n = n
+-- the reference of a name, the kind of its target with an id and a name beside it, and a peeled id if it has one
+abbrev pub reference-with : Bytes → Kind → Bytes → Bytes → Bool → Bytes → Reference
+reference-with name k id target has-peeled peeled = record { name = name; target = target-of k id target; peeled = if has-peeled then some peeled else none }

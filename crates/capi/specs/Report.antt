@@ -1,7 +1,6 @@
 -- What a call reports: a number and, where there are such, a block's place and a reference.
 use Prim.Native.Nat.{ℕ}
 use mathlib.Core.Option.{Option, none, some}
-use Rattle.names.specs.Bytes.{Bytes}
 use Rattle.names.specs.Check.{Check, Checked, gives, refuses}
 use Rattle.blocks.specs.Block.{Region}
 use Rattle.blocks.specs.Fitness.{Flaw}
@@ -63,13 +62,13 @@ followed-report (reached id r) = report 0 (some r)
 followed-report (stopped k r) = report k (some r)
 followed-report (barred k) = report k none
 
--- an answer that is none but its being there
-abbrev pub bare-report : Report → Report
-bare-report r = r
+-- a call that answers no more than that its checks passed
+abbrev pub passed-report : Unit {0} → Report
+passed-report u = report 0 none
 
 -- "Fit for search means none of 1, 2, 6, 7, 8."
 abbrev pub fitness-report : Snapshot → Report
-fitness-report s = result-report bare-report (after-checks (size-check s) (store-flaw (store id-width s)) (report 0 none))
+fitness-report s = result-report passed-report (after-checks (size-check s) (store-flaw (store id-width s)) tt)
 
 -- a check's number, 0 where it passes
 abbrev pub check-number : Check → ℕ

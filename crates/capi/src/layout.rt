@@ -1,19 +1,11 @@
-// Fields of a record: numbers of 8 bytes, low first, ids, and names with zeros behind them.
+// Fields of a record: numbers of 8 bytes, low first, and texts with zeros behind them.
 ghost use mathlib.Core.Path.{_≡_};
 ghost use Prim.Native.Nat.{_+_, _≤_};
 ghost use lib.ListN.{length, take, drop};
-ghost use Rattle.names.specs.Bytes.{if_then_else_};
-ghost use Rattle.names.specs.Name.{longest};
-ghost use Rattle.names.specs.Means.{content};
-ghost use Rattle.blocks.specs.Means.{id-width};
-ghost use mathlib.Core.List.{[]};
 ghost use Rattle.capi.specs.Layout.{word-size, word, from-low-first, padded};
 ghost use Rattle.capi.specs.Promises.{Wrote};
-use blocks::parse::ID_WIDTH;
-use blocks::parse::Id;
-use names::name::LONGEST;
-use names::name::Name;
 use names::name::lend;
+use output::clear;
 use output::put;
 
 pub const WORD_SIZE: usize = 8;
@@ -53,26 +45,10 @@ pub(crate) fn word_at(s: &[u8], at: usize) -> u64
     half_word_at(s, at) + half_word_at(s, at + 4) * 4294967296
 }
 
-// A name takes the room of the longest.
-pub(crate) fn put_name(out: &mut [u8], at: usize, n: Name)
-    ensures { λ r. ⌜ Wrote (now (out .entry)) at (padded longest (content n)) (now (out .exit)) ⌝ }
+// A text in a field of so many bytes, zeros behind it; what is longer is cut.
+pub(crate) fn put_padded(out: &mut [u8], at: usize, width: usize, s: &[u8])
+    ensures { λ r. ⌜ Wrote (now (out .entry)) at (padded width (now (s .entry))) (now (out .exit)) ⌝ }
 {
-    let blank = [0u8; LONGEST];
-    put(out, at, &blank);
-    let b = n.bytes;
-    let len = n.len;
-    put(out, at, lend(&b, len));
-}
-
-// An id, or zeros where there is none.
-pub(crate) fn put_id(out: &mut [u8], at: usize, there: bool, id: Id)
-    ensures { λ r. ⌜ Wrote (now (out .entry)) at (padded id-width (if there then id .digits else [])) (now (out .exit)) ⌝ }
-{
-    if there {
-        let digits = id.digits;
-        put(out, at, &digits);
-        return;
-    }
-    let blank = [0u8; ID_WIDTH];
-    put(out, at, &blank);
+    clear(out, at, width);
+    put(out, at, lend(s, width));
 }

@@ -1,24 +1,24 @@
 // Reports: the number, a block's place and a reference, at fixed places of an output.
 ghost use mathlib.Core.Option.{none, some};
 ghost use mathlib.Core.Path.{_≡_};
-ghost use lib.ListN.{length, replicate};
-ghost use Rattle.names.specs.Means.{content};
+ghost use mathlib.Core.List.{[], _++_};
+ghost use lib.ListN.{replicate};
+ghost use Rattle.names.specs.Bytes.{if_then_else_};
 ghost use Rattle.blocks.specs.Means.{region-of, reason-number};
-ghost use Rattle.refs.specs.Means.{reference-of, answered, trail-of};
+ghost use Rattle.refs.specs.Means.{answered, trail-of};
 ghost use Rattle.capi.specs.Report.{report, region-number, unfit-report, answer-report, followed-report};
-ghost use Rattle.capi.specs.Layout.{word, bit, reference-size, reference-bytes};
-ghost use Rattle.capi.specs.Promises.{Wrote, Reported, turned-report, is-object, kind-code, shown-target};
-ghost use mathlib.Core.List.{_++_};
-use crate::layout::put_id;
-use crate::layout::put_name;
+ghost use Rattle.capi.specs.Layout.{word, bit, reference-at, reference-size, reference-bytes};
+ghost use Rattle.capi.specs.Promises.{Wrote, Reported, turned-report, is-object, kind-code, reference-with};
+use crate::layout::WORD_SIZE;
+use crate::layout::put_padded;
 use crate::layout::put_word;
 use blocks::block::Region;
 use blocks::fitness;
-use names::name::Name;
-use names::name::empty;
+use blocks::parse::ID_WIDTH;
+use names::name::LONGEST;
+use names::name::lend;
 use names::name::refusal_number;
-use names::name::size;
-use output::put;
+use output::clear;
 use refs::check::Gate;
 use refs::raw::Answered;
 use refs::raw::Kind;
@@ -37,27 +37,27 @@ pub const TOO_SHORT: u32 = 101;
 // Where each field of a report begins.
 const NUMBER_AT: usize = 0;
 
-const REGION_AT: usize = 8;
+const REGION_AT: usize = NUMBER_AT + WORD_SIZE;
 
-const BLOCK_AT: usize = 16;
+const BLOCK_AT: usize = REGION_AT + WORD_SIZE;
 
-const KIND_AT: usize = 24;
+const KIND_AT: usize = BLOCK_AT + WORD_SIZE;
 
-const HAS_PEELED_AT: usize = 32;
+const HAS_PEELED_AT: usize = KIND_AT + WORD_SIZE;
 
-const NAME_LENGTH_AT: usize = 40;
+const NAME_LENGTH_AT: usize = HAS_PEELED_AT + WORD_SIZE;
 
-const TARGET_LENGTH_AT: usize = 48;
+const TARGET_LENGTH_AT: usize = NAME_LENGTH_AT + WORD_SIZE;
 
-const ID_AT: usize = 56;
+const ID_AT: usize = TARGET_LENGTH_AT + WORD_SIZE;
 
-const PEELED_AT: usize = 96;
+const PEELED_AT: usize = ID_AT + ID_WIDTH;
 
-const NAME_AT: usize = 136;
+const NAME_AT: usize = PEELED_AT + ID_WIDTH;
 
-const TARGET_AT: usize = 386;
+const TARGET_AT: usize = NAME_AT + LONGEST;
 
-pub const REPORT_SIZE: usize = 636;
+pub const REPORT_SIZE: usize = TARGET_AT + LONGEST;
 
 const REFERENCE_SIZE: usize = REPORT_SIZE - KIND_AT;
 
@@ -86,6 +86,13 @@ fn is_object(kind: Kind) -> bool
     }
 }
 
+// Its callers' reference is a field of a struct, and an enum cannot be read at that depth.
+pub(crate) fn kind_of(r: Reference) -> Kind
+    ensures { λ k. ⌜ k ≡ r .kind ⌝ }
+{
+    r.kind
+}
+
 // 1 for an object, 2 for a symbolic reference; 0 is no reference.
 fn kind_number(kind: Kind) -> u64
     ensures { λ r. ⌜ r ≡ kind-code kind ⌝ }
@@ -96,45 +103,51 @@ fn kind_number(kind: Kind) -> u64
     }
 }
 
-// The name of a symbolic target, else none.
-fn shown_target(kind: Kind, target: Name) -> Name
-    ensures { λ n. ⌜ content n ≡ shown-target kind (content target) ⌝ }
+// A text that is there, else none.
+fn if_there(there: bool, s: &[u8]) -> &[u8]
+    ensures { λ r. ⌜ now r ≡ (if there then now (s .entry) else []) ⌝ }
 {
-    match kind {
-        Kind::Object => empty(),
-        Kind::Symbolic => target,
+    if there {
+        return s;
     }
+    &s[0..0]
 }
 
 // The numbers in front of a reference's ids and names.
-fn put_lengths(out: &mut [u8], kind: Kind, has_peeled: bool, name: Name, target: Name)
-    ensures { λ u. ⌜ Wrote (now (out .entry)) 24 (word (kind-code kind) ++ word (bit «has_peeled») ++ word (length (content name)) ++ word (length (content target))) (now (out .exit)) ⌝ }
+fn put_lengths(out: &mut [u8], kind: Kind, has_peeled: bool, name: usize, target: usize)
+    ensures { λ u. ⌜ Wrote (now (out .entry)) reference-at (word (kind-code kind) ++ word (bit «has_peeled») ++ word name ++ word target) (now (out .exit)) ⌝ }
 {
     put_word(out, KIND_AT, kind_number(kind));
     put_word(out, HAS_PEELED_AT, bit(has_peeled));
-    put_word(out, NAME_LENGTH_AT, size(name) as u64);
-    put_word(out, TARGET_LENGTH_AT, size(target) as u64);
+    put_word(out, NAME_LENGTH_AT, name as u64);
+    put_word(out, TARGET_LENGTH_AT, target as u64);
 }
 
-fn put_reference(out: &mut [u8], r: Reference)
-    ensures { λ u. ⌜ Wrote (now (out .entry)) 24 (reference-bytes (reference-of r)) (now (out .exit)) ⌝ }
+// A reference by its parts, the texts lent: a struct by value would be copied.
+fn put_reference<'a>(
+    out: &mut [u8],
+    name: &'a [u8],
+    kind: Kind,
+    id: &'a [u8],
+    target: &'a [u8],
+    has_peeled: bool,
+    peeled: &'a [u8],
+)
+    ensures { λ u. ⌜ Wrote (now (out .entry)) reference-at (reference-bytes (reference-with (now (name .entry)) kind (now (id .entry)) (now (target .entry)) «has_peeled» (now (peeled .entry)))) (now (out .exit)) ⌝ }
 {
-    let kind = r.kind;
-    let name = r.name;
-    let target = shown_target(kind, r.target);
-    let has_peeled = r.has_peeled;
-    put_lengths(out, kind, has_peeled, name, target);
-    put_id(out, ID_AT, is_object(kind), r.id);
-    put_id(out, PEELED_AT, has_peeled, r.peeled);
-    put_name(out, NAME_AT, name);
-    put_name(out, TARGET_AT, target);
+    let object = is_object(kind);
+    let shown = if_there(!object, target);
+    put_lengths(out, kind, has_peeled, name.len(), shown.len());
+    put_padded(out, ID_AT, ID_WIDTH, if_there(object, id));
+    put_padded(out, PEELED_AT, ID_WIDTH, if_there(has_peeled, peeled));
+    put_padded(out, NAME_AT, LONGEST, name);
+    put_padded(out, TARGET_AT, LONGEST, shown);
 }
 
 fn put_no_reference(out: &mut [u8])
-    ensures { λ u. ⌜ Wrote (now (out .entry)) 24 (replicate reference-size 0) (now (out .exit)) ⌝ }
+    ensures { λ u. ⌜ Wrote (now (out .entry)) reference-at (replicate reference-size 0) (now (out .exit)) ⌝ }
 {
-    let blank = [0u8; REFERENCE_SIZE];
-    put(out, KIND_AT, &blank);
+    clear(out, KIND_AT, REFERENCE_SIZE);
 }
 
 // The numbers in front of the reference.
@@ -155,11 +168,21 @@ pub(crate) fn put_number(out: &mut [u8], number: u32) -> u32
     number
 }
 
-pub(crate) fn put_numbered(out: &mut [u8], number: u32, r: Reference) -> u32
-    ensures { λ n. ⌜ Reported (now (out .entry)) (report number (some (reference-of r))) (now (out .exit)) n ⌝ }
+// A number with a reference.
+pub(crate) fn put_numbered<'a>(
+    out: &mut [u8],
+    number: u32,
+    name: &'a [u8],
+    kind: Kind,
+    id: &'a [u8],
+    target: &'a [u8],
+    has_peeled: bool,
+    peeled: &'a [u8],
+) -> u32
+    ensures { λ n. ⌜ Reported (now (out .entry)) (report number (some (reference-with (now (name .entry)) kind (now (id .entry)) (now (target .entry)) «has_peeled» (now (peeled .entry))))) (now (out .exit)) n ⌝ }
 {
     put_place(out, number, 0, 0);
-    put_reference(out, r);
+    put_reference(out, name, kind, id, target, has_peeled, peeled);
     number
 }
 
@@ -183,9 +206,15 @@ pub(crate) fn put_answer(out: &mut [u8], a: Answered) -> u32
     ensures { λ n. ⌜ Reported (now (out .entry)) (answer-report (answered a)) (now (out .exit)) n ⌝ }
 {
     let outcome = a.outcome;
+    let name = lend(&a.reference.name.bytes, a.reference.name.len);
+    let kind = kind_of(a.reference);
+    let id = &a.reference.id.digits;
+    let target = lend(&a.reference.target.bytes, a.reference.target.len);
+    let has_peeled = a.reference.has_peeled;
+    let peeled = &a.reference.peeled.digits;
     match outcome {
         Outcome::Nothing => put_number(out, NOTHING),
-        Outcome::Found => put_numbered(out, 0, a.reference),
+        Outcome::Found => put_numbered(out, 0, name, kind, id, target, has_peeled, peeled),
         Outcome::Refused(why) => put_number(out, reason_number(why)),
     }
 }
@@ -195,10 +224,25 @@ pub(crate) fn put_trail(out: &mut [u8], t: Trail) -> u32
     ensures { λ n. ⌜ Reported (now (out .entry)) (followed-report (trail-of t)) (now (out .exit)) n ⌝ }
 {
     let ending = t.ending;
+    let name = lend(&t.reference.name.bytes, t.reference.name.len);
+    let kind = kind_of(t.reference);
+    let id = &t.reference.id.digits;
+    let target = lend(&t.reference.target.bytes, t.reference.target.len);
+    let has_peeled = t.reference.has_peeled;
+    let peeled = &t.reference.peeled.digits;
     match ending {
         Ending::NotThere => put_number(out, NOTHING),
-        Ending::Reached => put_numbered(out, 0, t.reference),
-        Ending::Stopped(why) => put_numbered(out, stop_number(why), t.reference),
+        Ending::Reached => put_numbered(out, 0, name, kind, id, target, has_peeled, peeled),
+        Ending::Stopped(why) => put_numbered(
+            out,
+            stop_number(why),
+            name,
+            kind,
+            id,
+            target,
+            has_peeled,
+            peeled,
+        ),
         Ending::Refused(why) => put_number(out, reason_number(why)),
     }
 }

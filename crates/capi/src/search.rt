@@ -1,5 +1,4 @@
 // Fitness, search and following.
-ghost use mathlib.Core.Path.{_≡_};
 ghost use Rattle.blocks.specs.Means.{id-width, if-there, snapshot-of, flaw-of};
 ghost use Rattle.refs.specs.Search.{find};
 ghost use Rattle.refs.specs.Follow.{follow};

@@ -1,19 +1,19 @@
 -- The rules of a well-formed name, byte by byte: what the walk over a name asks for.
-use mathlib.Core.Path.{_≡_, refl, sym, subst}
-use Prim.Native.Nat.{ℕ, suc, _+_, _-_, _≤_, _<_, compare·suc-suc}
+use mathlib.Core.Path.{_≡_, refl, sym, subst, _∙_}
+use Prim.Native.Nat.{ℕ, zero, suc, _+_, _-_, _≤_, _<_, compare·suc-suc}
 use native.Mathlib.Nat.{not-suc-le-zero}
 use native.Mathlib.Numerals.{add-one}
 use native.Mathlib.Omega.{arith}
 use mathlib.Core.List.{[], _∷_}
 use mathlib.Core.Bool.{Bool, true, false, _&&_, _||_, not, and-assoc, and-comm, and-true, and-false}
-use lib.Dec.{eqb}
+use lib.Dec.{eqb, leb}
 use lib.ListN.{length, take, drop, getD, drop-of-length-le}
 use lib.Seq.{drop-cons}
-use borrow.Author.Tests.{ne-eqb, le-ltb}
+use borrow.Author.Tests.{eqb-true, eqb-false, ne-eqb, leb-true, leb-false, le-ltb, not-true}
 use Rattle.names.specs.Bytes.{Bytes, bytes, slash, order, same, starts-with, ends-with, contains, every}
 use Rattle.names.specs.WellFormed.{not-empty, no-dot-begins, no-lock-ends, allowed, slashes-right, well-formed}
-use Rattle.names.specs.Promises.{rules-after, fits-after}
-use Rattle.names.proofs.Tests.{false-of}
+use Rattle.names.specs.Promises.{rules-after, fits-after, before, plain, parting, sure, all-sure}
+use Rattle.names.proofs.Tests.{and-left, and-right, false-of, in-range, not-both, or-eq}
 use Rattle.names.proofs.Parts.{tail-part}
 use Rattle.names.proofs.Orders.{eqb-comm, compare-refl, same-eq, same-nothing}
 
@@ -167,12 +167,12 @@ module _ (p : ℕ) where
         and-true,
       )
 
--- a byte that fits everywhere
-abbrev pub Plain : ℕ → Type 0
-Plain b = (p : ℕ) (s : Bytes) → fits-after p (b ∷ s) ≡ true
+-- a byte that fits, whatever stands before and behind it
+abbrev pub Anywhere : ℕ → Type 0
+Anywhere b = (p : ℕ) (s : Bytes) → fits-after p (b ∷ s) ≡ true
 
 module _ (b : ℕ) where
-  plain-by : 42 < b → (b ≡ 46 → ⊥) → (b ≡ slash → ⊥) → (b ≡ 58 → ⊥) → (b ≡ 63 → ⊥) → (91 ≤ b → b ≤ 94 → ⊥) → b < 123 → Plain b
+  plain-by : 42 < b → (b ≡ 46 → ⊥) → (b ≡ slash → ⊥) → (b ≡ 58 → ⊥) → (b ≡ 63 → ⊥) → (91 ≤ b → b ≤ 94 → ⊥) → b < 123 → Anywhere b
   unfolding contains starts-with
   plain-by low dot slsh colon query corner high p s =
       rw (
@@ -189,17 +189,32 @@ module _ (b : ℕ) where
         ne-eqb b 91 (λ e. corner (omega arith) (omega arith)),
       )
 
-  pub dash-plain : b ≡ 45 → Plain b
+  dash-plain : b ≡ 45 → Anywhere b
   dash-plain h = plain-by (omega arith) (λ e. omega arith) (λ e. omega arith) (λ e. omega arith) (λ e. omega arith) (λ e f. omega arith) (omega arith)
 
-  pub digit-plain : 48 ≤ b → b ≤ 57 → Plain b
+  digit-plain : 48 ≤ b → b ≤ 57 → Anywhere b
   digit-plain l h = plain-by (omega arith) (λ e. omega arith) (λ e. omega arith) (λ e. omega arith) (λ e. omega arith) (λ e f. omega arith) (omega arith)
 
-  pub upper-plain : 64 ≤ b → b ≤ 90 → Plain b
+  upper-plain : 64 ≤ b → b ≤ 90 → Anywhere b
   upper-plain l h = plain-by (omega arith) (λ e. omega arith) (λ e. omega arith) (λ e. omega arith) (λ e. omega arith) (λ e f. omega arith) (omega arith)
 
-  pub lower-plain : 95 ≤ b → b ≤ 122 → Plain b
+  lower-plain : 95 ≤ b → b ≤ 122 → Anywhere b
   lower-plain l h = plain-by (omega arith) (λ e. omega arith) (λ e. omega arith) (λ e. omega arith) (λ e. omega arith) (λ e f. omega arith) (omega arith)
+
+  ranged : (lo hi : ℕ) → (lo ≤ b → b ≤ hi → Anywhere b) → (leb lo b && leb b hi) ≡ true → Anywhere b
+  ranged lo hi f h = let k = in-range (leb lo b && leb b hi) b lo hi refl h in f (k .0) (k .1)
+
+  pub plain-fits : plain b ≡ true → Anywhere b
+  plain-fits h =
+      let lower = leb 95 b && leb b 122 in
+      let digit = leb 48 b && leb b 57 in
+      let upper = leb 64 b && leb b 90 in
+      or-eq
+      (lower || digit || upper)
+      (eqb b 45)
+      h
+      (λ k. or-eq (lower || digit) upper k (λ m. or-eq lower digit m (ranged 95 122 lower-plain) (ranged 48 57 digit-plain)) (ranged 64 90 upper-plain))
+      (λ k. dash-plain (eqb-true b 45 k))
 
 -- ---- the same of a text by its first byte
 
@@ -217,8 +232,70 @@ module _ (p : ℕ) (t : Bytes) (l : 0 < length t) where
   pub brace-at : getD t 0 0 ≡ 123 → fits-after p t ≡ not (eqb p 64)
   brace-at h = subst (λ (u : Bytes). fits-after p u ≡ not (eqb p 64)) (sym (first-cons t 123 l h)) (brace-is p (drop 1 t))
 
-  pub plain-at : Plain (getD t 0 0) → fits-after p t ≡ true
+  pub plain-at : Anywhere (getD t 0 0) → fits-after p t ≡ true
   plain-at h = subst (λ (u : Bytes). fits-after p u ≡ true) (sym (first-cons t (getD t 0 0) l refl)) (h p (drop 1 t))
 
   pub other-at : (getD t 0 0 ≡ 46 → ⊥) → (getD t 0 0 ≡ slash → ⊥) → (getD t 0 0 ≡ 123 → ⊥) → fits-after p t ≡ allowed (getD t 0 0)
   other-at d s b = subst (λ (u : Bytes). fits-after p u ≡ allowed (getD t 0 0)) (sym (first-cons t (getD t 0 0) l refl)) (other-is p (getD t 0 0) (drop 1 t) d s b)
+
+-- ---- bytes that surely fit
+
+module _ (p n : ℕ) (s : Bytes) (k : parting p ≡ false) where
+  other-than : (a : ℕ) → parting a ≡ true → p ≡ a → ⊥
+  other-than a t e = not-both (subst (λ (x : ℕ). parting x ≡ true) (sym e) t) k
+
+  not-last : (b : ℕ) → eqb (length (b ∷ n ∷ s)) 1 ≡ false
+  not-last b = ne-eqb (length (b ∷ n ∷ s)) 1 (λ e. omega arith)
+
+  slash-sure : fits-after p (slash ∷ n ∷ s) ≡ true
+  slash-sure = rw (slash-is p (n ∷ s), ne-eqb p slash (other-than slash refl), not-last slash)
+
+  lock-not : (n ≡ 108 → ⊥) → same (46 ∷ n ∷ s) (bytes ".lock") ≡ false
+  lock-not h = false-of (same (46 ∷ n ∷ s) (bytes ".lock")) (λ e. let j = same-eq (46 ∷ n ∷ s) (bytes ".lock") e in h (cc))
+
+  dot-sure : (n ≡ 108 → ⊥) → fits-after p (46 ∷ n ∷ s) ≡ true
+  unfolding starts-with
+  dot-sure h = rw (dot-is p (n ∷ s), ne-eqb p slash (other-than slash refl), ne-eqb p 46 (other-than 46 refl), not-last 46, lock-not h, ne-eqb 108 n (λ e. h (sym e)))
+
+  parting-sure : (b : ℕ) → 46 ≤ b → b ≤ 47 → (eqb b slash || not (eqb n 108)) ≡ true → fits-after p (b ∷ n ∷ s) ≡ true
+  parting-sure b l h e = go (leb b 46) refl
+    where
+      go : (d : Bool) → leb b 46 ≡ d → fits-after p (b ∷ n ∷ s) ≡ true
+      go true w =
+          let low = leb-true b 46 w in
+          let is : b ≡ 46 = omega arith in
+          rw is (dot-sure (eqb-false n 108 (not-true (eqb n 108) (rw is at e))))
+      go false w =
+          let high = leb-false b 46 w in
+          let is : b ≡ 47 = omega arith in
+          rw is slash-sure
+
+sure-fits : (p b n : ℕ) (s : Bytes) → sure p b n ≡ true → fits-after p (b ∷ n ∷ s) ≡ true
+sure-fits p b n s h = or-eq (plain b) (parting b && not (parting p) && (eqb b slash || not (eqb n 108))) h (λ k. plain-fits b k p (n ∷ s)) (λ k.
+    let both = and-left (parting b && not (parting p)) (eqb b slash || not (eqb n 108)) k in
+    let at = in-range (parting b) b 46 47 refl (and-left (parting b) (not (parting p)) both) in
+    parting-sure p n s (not-true (parting p) (and-right (parting b) (not (parting p)) both)) b (at .0) (at .1) (and-right (parting b && not (parting p)) (eqb b slash || not (eqb n 108)) k))
+
+sure-at : (p : ℕ) (s : Bytes) (i : ℕ) → i + 1 < length s → sure p (getD s i 0) (getD s (i + 1) 0) ≡ true → fits-after p (drop i s) ≡ true
+sure-at p s i h e = rw (drop-cons s i 0 (omega arith), ← add-one i, drop-cons s (i + 1) 0 h) (sure-fits p (getD s i 0) (getD s (i + 1) 0) (drop (suc (i + 1)) s) e)
+
+pub rules-sure : (s : Bytes) (i n : ℕ) → i + n + 1 < length s → all-sure s i n ≡ true → rules-after (getD s i 0) (drop (i + 1) s) ≡ rules-after (getD s (i + n) 0) (drop (i + n + 1) s)
+rules-sure s i zero h e = let z : i + 0 ≡ i = omega arith in rw z
+rules-sure s i (suc n) h e =
+    let m : i + suc n ≡ i + n + 1 = omega arith in
+    let two : i + n + 2 ≡ i + n + 1 + 1 = omega arith in
+    let here = sure (getD s (i + n) 0) (getD s (i + n + 1) 0) (getD s (i + n + 2) 0) in
+    rules-sure s i n (omega arith) (and-left (all-sure s i n) here e)
+    ∙ rw (m, rules-at (getD s (i + n) 0) s (i + n + 1) (omega arith), sure-at (getD s (i + n) 0) s (i + n + 1) (omega arith) (rw two at (and-right (all-sure s i n) here e)))
+
+pub first-plain : (s : Bytes) → 0 < length s → plain (getD s 0 0) ≡ true → rules-after slash s ≡ rules-after (getD s 0 0) (drop 1 s)
+first-plain s l h = rules-at slash s 0 l ∙ rw (plain-at slash s l (plain-fits (getD s 0 0) h))
+
+-- ---- the byte before a place
+
+pub before-next : (s : Bytes) (i : ℕ) → before s (i + 1) ≡ getD s i 0
+before-next s i = rw (add-one i)
+
+pub before-later : (s : Bytes) (i : ℕ) → (i ≡ 0 → ⊥) → getD s (i - 1) 0 ≡ before s i
+before-later s zero h = absurd (h refl)
+before-later s (suc i) h = let k : suc i - 1 ≡ i = omega arith in rw k

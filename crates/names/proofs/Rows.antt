@@ -1,15 +1,19 @@
 -- Rows 3 to 5 of the table: what is left of them after each check.
-use mathlib.Core.Path.{_≡_, refl, sym, _∙_}
+use mathlib.Core.Path.{_≡_, refl, ap, sym, _∙_}
 use Prim.Native.Nat.{_≤_}
 use mathlib.Core.Bool.{Bool, true, false, _&&_}
 use mathlib.Core.Option.{Option, none, some}
 use lib.ListN.{length}
-use borrow.Author.Tests.{leb-true}
+use borrow.Author.Tests.{leb-true, le-leb}
 use Rattle.names.specs.Bytes.{Bytes}
-use Rattle.names.specs.Check.{unless, _or-else_, Checked, checked}
+use Rattle.names.specs.Check.{unless, _or-else_, Checked, refuses, checked}
 use Rattle.names.specs.Name.{longest, fits}
 use Rattle.names.specs.Namespace.{expand, expansion, passes-if-given, names-check, expanded}
 use Rattle.names.specs.WellFormed.{well-formed}
+use Rattle.names.specs.Means.{number, check-of}
+use Rattle.names.specs.declared.name.Refusal.{Refusal}
+use Rattle.names.specs.declared.name.Verdict.{Verdict}
+use Rattle.names.specs.declared.name.Verdict.the-variants.{Accepted, Refused}
 use Rattle.names.proofs.Tests.{and-right, none≢some}
 
 -- nothing is asked where nothing is given
@@ -54,3 +58,13 @@ expansion-fits namespace h = go (passes-if-given fits namespace) (passes-if-give
     go true true false f r = absurd (none≢some (sym r))
     go true false z f r = absurd (none≢some (sym r))
     go false y z f r = absurd (none≢some (sym r))
+
+-- a namespace by its verdict
+module _ (s : Bytes) (v : Verdict) (e : check-of v ≡ names-check none (some s)) where
+  pub accepted-is : v ≡ Accepted → (t : Bytes) → (fits (expand s) ≡ true → t ≡ expand s) → checked (check-of v) t ≡ expanded s
+  accepted-is g t h =
+      let passes : names-check none (some s) ≡ none = sym e ∙ ap check-of g in
+      rw (e, h (le-leb (length (expand s)) longest (expansion-fits (some s) passes))) (sym (expanded-is s))
+
+  pub refused-is : (why : Refusal) → v ≡ Refused why → refuses (number why) ≡ expanded s
+  refused-is why g = rw (expanded-is s, ← e, g)

@@ -14,6 +14,8 @@ use Rattle.names.specs.declared.bytes.Order.the-variants.{Less, Equal, G
 use Rattle.names.specs.declared.name.Name.{Name}
 use Rattle.names.specs.declared.name.PartialName.{PartialName}
 use Rattle.names.specs.declared.name.Made.{Made}
+use Rattle.names.specs.declared.name.Filled.{Filled}
+use Rattle.names.specs.declared.name.Filled.the-variants as put
 use Rattle.names.specs.declared.name.Refusal.{Refusal}
 use Rattle.names.specs.declared.name.Refusal.the-variants.{TooLong, Malformed, ExpansionTooLong}
 use Rattle.names.specs.declared.name.Verdict.{Verdict}
@@ -73,6 +75,11 @@ pub record SizeOf (n : Name) (r : ℕ) : Type 0 where
 abbrev pub made-name : Made → Option Bytes
 made-name r = if r .ok then some (content (r .name)) else none
 
+-- the bytes that were put in front, if they found room
+abbrev pub filled : Bytes → Filled → Option Bytes
+filled b (put.To k) = some (held b k)
+filled b put.TooLong = none
+
 -- what a name can hold
 abbrev pub if-fits : Bytes → Option Bytes
 if-fits s = if fits s then some s else none
@@ -103,8 +110,12 @@ abbrev pub checked-namespace : CheckedNamespace → Checked Bytes
 checked-namespace r = checked (check-of (r .verdict)) (expansion-content (r .name))
 
 -- what a full name must be: 3 "over 250 bytes", 4 "not complete where a complete one is due"
+abbrev pub full-check : Bytes → Check
+full-check s = unless 3 (fits s) or-else unless 4 (complete s)
+
+-- the full name, unless that refuses it
 unfoldable pub full-checked : Bytes → Checked Bytes
-full-checked s = checked (unless 3 (fits s) or-else unless 4 (complete s)) s
+full-checked s = checked (full-check s) s
 
 -- ---- categories
 

@@ -5,11 +5,11 @@ ghost use mathlib.Core.List.{_++_};
 ghost use mathlib.Core.Bool.{_&&_};
 ghost use Prim.Native.Nat.{_+_, _≤_, _<_, compare};
 ghost use lib.Dec.{isEq, leb};
-ghost use lib.ListN.{length};
+ghost use lib.ListN.{length, drop};
 ghost use Rattle.names.specs.Bytes.{order, same, starts-with, ends-with, contains, strip};
 ghost use Rattle.names.specs.Name.{directory};
 ghost use Rattle.names.specs.Means.{ordering};
-ghost use Rattle.output.specs.Pasted.{Put};
+ghost use Rattle.names.specs.Promises.{agree};
 
 pub enum Order {
     Less,
@@ -42,7 +42,7 @@ pub fn in_range(b: u8, first: u8, last: u8) -> bool
 }
 
 // The shorter of two lengths.
-fn shorter(x: usize, y: usize) -> usize
+pub(crate) fn shorter(x: usize, y: usize) -> usize
     ensures { λ r. ⌜ (r ≤ x) × (r ≤ y) × (r < x → y ≤ r) ⌝ }
 {
     if x < y { x } else { y }
@@ -60,12 +60,41 @@ fn byte_order(x: u8, y: u8) -> Order
     Order::Equal
 }
 
+// Are the eight bytes from i on the same in both? One way out of the loop: they are then compared at once.
+fn eight_agree(a: &[u8], b: &[u8], i: usize) -> bool
+    requires { ⌜ (i + 8 ≤ length (now a)) × (i + 8 ≤ length (now b)) ⌝ }
+    ensures { λ r. ⌜ r ≡ agree (now (a .entry)) (now (b .entry)) i 8 ⌝ }
+{
+    let mut same = true;
+    let mut j = 0;
+    while j < 8 {
+        same = same & (a[i + j] == b[i + j]);
+        j += 1;
+    }
+    same
+}
+
+// How many of the first n bytes are skipped, eight at a time, as the same in both.
+fn common_front(a: &[u8], b: &[u8], n: usize) -> usize
+    requires { ⌜ (n ≤ length (now a)) × (n ≤ length (now b)) ⌝ }
+    ensures { λ r. ⌜ (r ≤ n) × (order (now (a .entry)) (now (b .entry)) ≡ order (drop r (now (a .entry))) (drop r (now (b .entry)))) ⌝ }
+{
+    let mut i = 0;
+    while 8 <= n - i {
+        if !eight_agree(a, b, i) {
+            return i;
+        }
+        i += 8;
+    }
+    i
+}
+
 // The order of names: by bytes, a proper beginning first.
 pub fn compare(a: &[u8], b: &[u8]) -> Order
     ensures { λ r. ⌜ ordering r ≡ order (now (a .entry)) (now (b .entry)) ⌝ }
 {
     let n = shorter(a.len(), b.len());
-    let mut i = 0;
+    let mut i = common_front(a, b, n);
     while i < n {
         if a[i] != b[i] {
             return byte_order(a[i], b[i]);
@@ -135,15 +164,6 @@ pub fn without<'a>(s: &'a [u8], p: &[u8]) -> &'a [u8]
     }
     let k = p.len();
     &s[k..]
-}
-
-// Puts s behind the first `at` bytes of a buffer, and answers where it ends.
-pub(crate) fn put(out: &mut [u8], at: usize, s: &[u8]) -> usize
-    requires { ⌜ at + length (now s) ≤ length (now out) ⌝ }
-    ensures { λ r. ⌜ Put (now (out .entry)) at (now (s .entry)) (now (out .exit)) r ⌝ }
-{
-    output::put(out, at, s);
-    at + s.len()
 }
 
 // Does t begin with s and a slash?

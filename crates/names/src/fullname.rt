@@ -1,17 +1,17 @@
 // Full names and their categories (fullname.rs, name.rs).
 use crate::bytes::starts_with;
 use crate::bytes::without;
+use crate::name::Filled;
 use crate::name::LONGEST;
-use crate::name::Made;
 use crate::name::Name;
 use crate::name::Refusal;
 use crate::name::Verdict;
+use crate::name::cut_name;
 use crate::name::empty;
-use crate::name::from_bytes;
+use crate::name::front;
 use crate::name::is_pseudo_ref;
-use crate::name::join;
 use crate::name::lend;
-use crate::name::pushed;
+use crate::name::put_joined;
 use crate::name::size;
 use crate::validate::complete;
 ghost use mathlib.Core.Path.{_≡_};
@@ -20,8 +20,9 @@ ghost use mathlib.Core.Option.{some};
 ghost use Prim.Native.Nat.{ℕ};
 ghost use lib.ListN.{take};
 ghost use Rattle.names.specs.Bytes.{Bytes, bytes, strip};
+ghost use Rattle.names.specs.Check.{refuses};
 ghost use Rattle.names.specs.Category.{class, first-slash, classify-below, classify-linked, classify, private-category, is-private, short-name, behind, full-of, to-full-name};
-ghost use Rattle.names.specs.Means.{content, made-name, if-fits, slash-found, category-with, class-with, class-of, checked-full, full-checked};
+ghost use Rattle.names.specs.Means.{content, filled, if-fits, slash-found, category-with, class-with, class-of, check-of, full-check, checked-full, full-checked};
 
 // The linked ones hold the length of their worktree's name, which stands behind worktrees/.
 pub enum Category {
@@ -55,13 +56,13 @@ pub struct CheckedFull {
 }
 
 // Where a slash is.
-enum Slash {
+pub(crate) enum Slash {
     At(usize),
     Nowhere,
 }
 
 // The first slash.
-fn find_slash(s: &[u8]) -> Slash
+pub(crate) fn find_slash(s: &[u8]) -> Slash
     ensures { λ r. ⌜ slash-found r ≡ first-slash (now (s .entry)) ⌝ }
 {
     let mut i = 0;
@@ -194,92 +195,82 @@ pub fn short_name(s: &[u8]) -> &[u8]
     }
 }
 
-// A full name: refused 3 over 250 bytes, then 4 if it is not complete.
+// Whether s is a full name: refused 3 over 250 bytes, then 4 if it is not complete.
+pub fn check_full(s: &[u8]) -> Verdict
+    ensures { λ r. ⌜ check-of r ≡ full-check (now (s .entry)) ⌝ }
+{
+    if s.len() > LONGEST {
+        return Verdict::Refused(Refusal::TooLong);
+    }
+    if !complete(s) {
+        return Verdict::Refused(Refusal::Malformed);
+    }
+    Verdict::Accepted
+}
+
+// The full name s, checked.
 pub fn full_name(s: &[u8]) -> CheckedFull
     ensures { λ r. ⌜ checked-full r ≡ full-checked (now (s .entry)) ⌝ }
 {
-    let m = from_bytes(s);
-    let ok = m.ok;
-    let n = m.name;
+    let verdict = check_full(s);
+    let n = cut_name(s);
     let name = FullName(n);
-    if !ok {
-        let verdict = Verdict::Refused(Refusal::TooLong);
-        return CheckedFull { verdict, name };
-    }
-    if !complete(s) {
-        let verdict = Verdict::Refused(Refusal::Malformed);
-        return CheckedFull { verdict, name };
-    }
-    CheckedFull {
-        verdict: Verdict::Accepted,
-        name,
-    }
+    CheckedFull { verdict, name }
 }
 
-// p behind the prefix, unless it begins with it already.
-fn prefixed(front: &[u8], p: &[u8]) -> Made
-    ensures { λ r. ⌜ made-name r ≡ if-fits (behind (now (front .entry)) (now (p .entry))) ⌝ }
+// Puts p behind the prefix, unless it begins with it already.
+fn put_prefixed(out: &mut [u8; LONGEST], prefix: &[u8], p: &[u8]) -> Filled
+    ensures { λ r. ⌜ filled (now (out .exit)) r ≡ if-fits (behind (now (prefix .entry)) (now (p .entry))) ⌝ }
 {
-    if starts_with(p, front) {
-        return from_bytes(p);
+    if starts_with(p, prefix) {
+        return put_joined(out, b"", b"", p);
     }
-    let m = from_bytes(front);
-    let ok = m.ok;
-    if !ok {
-        return m;
-    }
-    let n = m.name;
-    join(n, p)
+    put_joined(out, b"", prefix, p)
 }
 
-// The prefix of a linked worktree's names.
-fn worktree_prefix(worktree: &[u8]) -> Made
-    ensures { λ r. ⌜ made-name r ≡ if-fits (bytes "worktrees/" ++ now (worktree .entry) ++ bytes "/") ⌝ }
+// The same with the prefix of a linked worktree's names.
+fn put_linked(out: &mut [u8; LONGEST], worktree: &[u8], p: &[u8]) -> Filled
+    ensures { λ r. ⌜ filled (now (out .exit)) r ≡ if-fits (behind (bytes "worktrees/" ++ now (worktree .entry) ++ bytes "/") (now (p .entry))) ⌝ }
 {
-    let e = empty();
-    let n = pushed(e, b"worktrees/");
-    let m = join(n, worktree);
-    let ok = m.ok;
-    if !ok {
-        return m;
+    let mut prefix: [u8; LONGEST] = [0; LONGEST];
+    let f = put_joined(&mut prefix, b"worktrees/", worktree, b"/");
+    match f {
+        Filled::To(len) => put_prefixed(out, front(&prefix, len), p),
+        Filled::TooLong => Filled::TooLong,
     }
-    let k = m.name;
-    join(k, b"/")
 }
 
-// p behind the prefix of a linked worktree, unless it begins with it already.
-fn prefixed_linked(worktree: &[u8], p: &[u8]) -> Made
-    ensures { λ r. ⌜ made-name r ≡ if-fits (behind (bytes "worktrees/" ++ now (worktree .entry) ++ bytes "/") (now (p .entry))) ⌝ }
-{
-    let m = worktree_prefix(worktree);
-    let ok = m.ok;
-    if !ok {
-        return m;
-    }
-    let n = m.name;
-    let b = n.bytes;
-    let len = n.len;
-    prefixed(lend(&b, len), p)
-}
-
-// The full name of a short one, where it fits.
-fn full_of(category: Category, worktree: &[u8], short: &[u8]) -> Made
-    ensures { λ r. ⌜ made-name r ≡ if-fits (full-of (category-with (λ k. now (worktree .entry)) category) (now (short .entry))) ⌝ }
+// Puts the full name of a short one, where it fits.
+fn put_full(out: &mut [u8; LONGEST], category: Category, worktree: &[u8], short: &[u8]) -> Filled
+    ensures { λ r. ⌜ filled (now (out .exit)) r ≡ if-fits (full-of (category-with (λ k. now (worktree .entry)) category) (now (short .entry))) ⌝ }
 {
     match category {
-        Category::Tag => prefixed(b"refs/tags/", short),
-        Category::LocalBranch => prefixed(b"refs/heads/", short),
-        Category::RemoteBranch => prefixed(b"refs/remotes/", short),
-        Category::Note => prefixed(b"refs/notes/", without(short, b"notes/")),
-        Category::PseudoRef => from_bytes(short),
-        Category::MainPseudoRef => prefixed(b"main-worktree/", short),
-        Category::MainRef => prefixed(b"main-worktree/refs/", without(short, b"refs/")),
-        Category::LinkedPseudoRef { name_len: _ } => prefixed_linked(worktree, short),
-        Category::LinkedRef { name_len: _ } => prefixed_linked(worktree, short),
-        Category::Bisect => prefixed(b"refs/bisect/", without(short, b"bisect/")),
-        Category::Rewritten => prefixed(b"refs/rewritten/", without(short, b"rewritten/")),
-        Category::WorktreePrivate => prefixed(b"refs/worktree/", without(short, b"worktree/")),
+        Category::Tag => put_prefixed(out, b"refs/tags/", short),
+        Category::LocalBranch => put_prefixed(out, b"refs/heads/", short),
+        Category::RemoteBranch => put_prefixed(out, b"refs/remotes/", short),
+        Category::Note => put_prefixed(out, b"refs/notes/", without(short, b"notes/")),
+        Category::PseudoRef => put_joined(out, b"", b"", short),
+        Category::MainPseudoRef => put_prefixed(out, b"main-worktree/", short),
+        Category::MainRef => put_prefixed(out, b"main-worktree/refs/", without(short, b"refs/")),
+        Category::LinkedPseudoRef { name_len: _ } => put_linked(out, worktree, short),
+        Category::LinkedRef { name_len: _ } => put_linked(out, worktree, short),
+        Category::Bisect => put_prefixed(out, b"refs/bisect/", without(short, b"bisect/")),
+        Category::Rewritten => put_prefixed(out, b"refs/rewritten/", without(short, b"rewritten/")),
+        Category::WorktreePrivate => put_prefixed(
+            out,
+            b"refs/worktree/",
+            without(short, b"worktree/"),
+        ),
     }
+}
+
+fn too_long() -> CheckedFull
+    ensures { λ r. ⌜ checked-full r ≡ refuses 3 ⌝ }
+{
+    let e = empty();
+    let verdict = Verdict::Refused(Refusal::TooLong);
+    let name = FullName(e);
+    CheckedFull { verdict, name }
 }
 
 // The full name of a short one: refused 3 where either is over 250 bytes, then 4 if it is not complete. The linked
@@ -287,27 +278,16 @@ fn full_of(category: Category, worktree: &[u8], short: &[u8]) -> Made
 pub fn to_full_name(category: Category, worktree: &[u8], short: &[u8]) -> CheckedFull
     ensures { λ r. ⌜ checked-full r ≡ to-full-name (category-with (λ k. now (worktree .entry)) category) (now (short .entry)) ⌝ }
 {
-    let m = full_of(category, worktree, short);
-    let ok = m.ok;
-    let n = m.name;
-    let name = FullName(n);
-    if short.len() > LONGEST {
-        let verdict = Verdict::Refused(Refusal::TooLong);
-        return CheckedFull { verdict, name };
-    }
-    if !ok {
-        let verdict = Verdict::Refused(Refusal::TooLong);
-        return CheckedFull { verdict, name };
-    }
-    let b = n.bytes;
-    let len = n.len;
-    if !complete(lend(&b, len)) {
-        let verdict = Verdict::Refused(Refusal::Malformed);
-        return CheckedFull { verdict, name };
-    }
-    CheckedFull {
-        verdict: Verdict::Accepted,
-        name,
+    let mut out: [u8; LONGEST] = [0; LONGEST];
+    let f = put_full(&mut out, category, worktree, short);
+    match f {
+        Filled::To(len) => {
+            if short.len() > LONGEST {
+                return too_long();
+            }
+            full_name(front(&out, len))
+        }
+        Filled::TooLong => too_long(),
     }
 }
 
@@ -316,8 +296,5 @@ pub fn strip_namespace(n: Name, e: &[u8]) -> Name
     ensures { λ r. ⌜ content r ≡ strip (now (e .entry)) (content n) ⌝ }
 {
     let k = size(n);
-    let b = n.bytes;
-    let rest = without(lend(&b, k), e);
-    let none = empty();
-    pushed(none, rest)
+    cut_name(without(lend(&n.bytes, k), e))
 }

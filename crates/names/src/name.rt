@@ -1,20 +1,20 @@
 // Names (name.rs): 250 bytes held in a struct, with a length.
 use crate::bytes::equal;
-use crate::bytes::put;
+use crate::bytes::shorter;
 use crate::bytes::starts_with;
 ghost use mathlib.Core.Path.{_≡_};
 ghost use mathlib.Core.List.{[], _++_};
 ghost use mathlib.Core.Bool.{true};
 ghost use mathlib.Core.Option.{none, some};
-ghost use Prim.Native.Nat.{_+_, _≤_};
+ghost use Prim.Native.Nat.{_+_};
 ghost use lib.Dec.{leb};
-ghost use lib.ListN.{length};
-ghost use Rattle.names.specs.Bytes.{bytes, if_then_else_, same};
+ghost use lib.ListN.{take};
+ghost use Rattle.names.specs.Bytes.{bytes, same};
 ghost use Rattle.names.specs.Check.{checked};
 ghost use Rattle.names.specs.Name.{longest, pseudo-byte, is-pseudo, looks-full};
 ghost use Rattle.names.specs.Candidates.{full-name};
 ghost use Rattle.names.specs.Namespace.{names-check};
-ghost use Rattle.names.specs.Means.{held, content, SizeOf, made-name, if-fits, number, checked-partial};
+ghost use Rattle.names.specs.Means.{held, content, SizeOf, made-name, filled, if-fits, number, check-of, checked-partial};
 
 // The longest name.
 pub const LONGEST: usize = 250;
@@ -31,6 +31,12 @@ pub struct PartialName(pub Name);
 pub struct Made {
     pub ok: bool,
     pub name: Name,
+}
+
+// How many bytes were put in front of a name's bytes, or that they are more than a name holds.
+pub enum Filled {
+    To(usize),
+    TooLong,
 }
 
 // Why a name is refused: 3, 4 and 5 of document 01's table.
@@ -83,6 +89,13 @@ pub fn lend(b: &[u8], len: usize) -> &[u8]
     b
 }
 
+// The first len of a name's bytes, lent from the array.
+pub fn front(b: &[u8; LONGEST], len: usize) -> &[u8]
+    ensures { λ r. ⌜ now r ≡ held (now (b .entry)) len ⌝ }
+{
+    lend(b, len)
+}
+
 pub fn empty() -> Name
     ensures { λ r. ⌜ content r ≡ [] ⌝ }
 {
@@ -90,30 +103,6 @@ pub fn empty() -> Name
         bytes: [0; LONGEST],
         len: 0,
     }
-}
-
-// The name with s behind it.
-pub(crate) fn pushed(n: Name, s: &[u8]) -> Name
-    requires { ⌜ length (content n) + length (now s) ≤ longest ⌝ }
-    ensures { λ r. ⌜ content r ≡ content n ++ now (s .entry) ⌝ }
-{
-    let k = size(n);
-    let mut b = n.bytes;
-    let len = put(&mut b, k, s);
-    Name { bytes: b, len }
-}
-
-// The name with s behind it, where that fits.
-pub fn join(n: Name, s: &[u8]) -> Made
-    ensures { λ r. ⌜ made-name r ≡ if-fits (content n ++ now (s .entry)) ⌝ }
-{
-    let k = size(n);
-    if s.len() <= LONGEST - k {
-        let m = pushed(n, s);
-        return Made { ok: true, name: m };
-    }
-    let e = empty();
-    Made { ok: false, name: e }
 }
 
 // Whether a name holds three parts of these lengths.
@@ -129,47 +118,62 @@ fn fit_together(x: usize, y: usize, z: usize) -> bool
     z <= LONGEST - x - y
 }
 
-// A name of three parts, where they fit: the bytes are put in place once.
-fn joined(a: &[u8], s: &[u8], t: &[u8]) -> Made
-    ensures { λ r. ⌜ made-name r ≡ if-fits (now (a .entry) ++ (now (s .entry) ++ now (t .entry))) ⌝ }
+// Puts three parts behind the first `at` of a name's bytes, where they fit; where not, what is written does not count.
+pub(crate) fn put_behind(out: &mut [u8; LONGEST], at: usize, a: &[u8], s: &[u8], t: &[u8]) -> Filled
+    ensures { λ r. ⌜ filled (now (out .exit)) r ≡ if-fits (held (now (out .entry)) at ++ (now (a .entry) ++ (now (s .entry) ++ now (t .entry)))) ⌝ }
 {
-    if !fit_together(a.len(), s.len(), t.len()) {
-        let e = empty();
-        return Made { ok: false, name: e };
+    let i = shorter(at, LONGEST);
+    let j = i + a.len();
+    output::put(out, i, a);
+    if !fit_together(j, s.len(), t.len()) {
+        return Filled::TooLong;
     }
-    let mut b: [u8; LONGEST] = [0; LONGEST];
-    let i = put(&mut b, 0, a);
-    let j = put(&mut b, i, s);
-    let len = put(&mut b, j, t);
-    let name = Name { bytes: b, len };
-    Made { ok: true, name }
+    let k = j + s.len();
+    output::put(out, j, s);
+    output::put(out, k, t);
+    Filled::To(k + t.len())
+}
+
+// Puts three parts in front of a name's bytes, where they fit.
+pub(crate) fn put_joined(out: &mut [u8; LONGEST], a: &[u8], s: &[u8], t: &[u8]) -> Filled
+    ensures { λ r. ⌜ filled (now (out .exit)) r ≡ if-fits (now (a .entry) ++ (now (s .entry) ++ now (t .entry))) ⌝ }
+{
+    put_behind(out, 0, a, s, t)
+}
+
+// Puts s in front of a name's bytes, as much of it as a name holds, and answers how much that is.
+pub fn fill(out: &mut [u8; LONGEST], s: &[u8]) -> usize
+    ensures { λ r. ⌜ held (now (out .exit)) r ≡ take longest (now (s .entry)) ⌝ }
+{
+    output::put(out, 0, s);
+    shorter(s.len(), LONGEST)
+}
+
+// A name of the first bytes of s, as many as it holds.
+pub(crate) fn cut_name(s: &[u8]) -> Name
+    ensures { λ r. ⌜ content r ≡ take longest (now (s .entry)) ⌝ }
+{
+    let mut n = empty();
+    n.len = fill(&mut n.bytes, s);
+    n
 }
 
 // A name of the bytes s, where they fit.
 pub fn from_bytes(s: &[u8]) -> Made
     ensures { λ r. ⌜ made-name r ≡ if-fits (now (s .entry)) ⌝ }
 {
-    joined(b"", b"", s)
-}
-
-// One name behind the other, where that fits.
-pub fn concat(n: Name, m: Name) -> Made
-    ensures { λ r. ⌜ made-name r ≡ if-fits (content n ++ content m) ⌝ }
-{
-    let b = m.bytes;
-    let len = m.len;
-    join(n, lend(&b, len))
+    let ok = s.len() <= LONGEST;
+    let name = cut_name(s);
+    Made { ok, name }
 }
 
 // Do two names hold the same bytes?
 pub fn same_name(a: Name, b: Name) -> bool
     ensures { λ r. ⌜ r ≡ same (content a) (content b) ⌝ }
 {
-    let x = a.bytes;
-    let x_len = a.len;
-    let y = b.bytes;
-    let y_len = b.len;
-    equal(lend(&x, x_len), lend(&y, y_len))
+    let k = a.len;
+    let l = b.len;
+    equal(lend(&a.bytes, k), lend(&b.bytes, l))
 }
 
 fn pseudo_byte(b: u8) -> bool
@@ -218,48 +222,51 @@ pub fn looks_like_full_name(s: &[u8], pseudo: bool) -> bool
 }
 
 // The candidate for x with a directory in between, which ends with its slash or is empty.
-pub fn construct_full_name_ref(x: &[u8], inbetween: &[u8], pseudo: bool) -> Made
-    ensures { λ r. ⌜ made-name r ≡ if-fits (full-name pseudo (now (inbetween .entry)) (now (x .entry))) ⌝ }
+pub fn construct_full_name_ref(
+    out: &mut [u8; LONGEST],
+    x: &[u8],
+    inbetween: &[u8],
+    pseudo: bool,
+) -> Filled
+    ensures { λ r. ⌜ filled (now (out .exit)) r ≡ if-fits (full-name pseudo (now (inbetween .entry)) (now (x .entry))) ⌝ }
 {
     if looks_like_full_name(x, pseudo) {
-        return joined(b"", inbetween, x);
+        return put_joined(out, b"", inbetween, x);
     }
-    joined(b"refs/", inbetween, x)
+    put_joined(out, b"refs/", inbetween, x)
 }
 
 // The last candidate for x: x/HEAD below remotes, itself a partial name that may look full.
-pub fn remote_head_candidate(x: &[u8]) -> Made
-    ensures { λ r. ⌜ made-name r ≡ if-fits (full-name true (bytes "remotes/") (now (x .entry) ++ bytes "/HEAD")) ⌝ }
+pub fn remote_head_candidate(out: &mut [u8; LONGEST], x: &[u8]) -> Filled
+    ensures { λ r. ⌜ filled (now (out .exit)) r ≡ if-fits (full-name true (bytes "remotes/") (now (x .entry) ++ bytes "/HEAD")) ⌝ }
 {
-    let h = joined(b"", x, b"/HEAD");
-    let ok = h.ok;
-    if !ok {
-        return h;
+    let mut head: [u8; LONGEST] = [0; LONGEST];
+    let h = put_joined(&mut head, b"", x, b"/HEAD");
+    match h {
+        Filled::To(len) => construct_full_name_ref(out, front(&head, len), b"remotes/", true),
+        Filled::TooLong => Filled::TooLong,
     }
-    let n = h.name;
-    let b = n.bytes;
-    let len = n.len;
-    construct_full_name_ref(lend(&b, len), b"remotes/", true)
 }
 
-// A partial name: refused 3 over 250 bytes, then 4 if malformed.
+// Whether s is a partial name: refused 3 over 250 bytes, then 4 if malformed.
+pub fn check_partial(s: &[u8]) -> Verdict
+    ensures { λ r. ⌜ check-of r ≡ names-check (some (now (s .entry))) none ⌝ }
+{
+    if s.len() > LONGEST {
+        return Verdict::Refused(Refusal::TooLong);
+    }
+    if !crate::validate::well_formed(s) {
+        return Verdict::Refused(Refusal::Malformed);
+    }
+    Verdict::Accepted
+}
+
+// The partial name s, checked.
 pub fn partial_name(s: &[u8]) -> CheckedPartial
     ensures { λ r. ⌜ checked-partial r ≡ checked (names-check (some (now (s .entry))) none) (now (s .entry)) ⌝ }
 {
-    let m = from_bytes(s);
-    let ok = m.ok;
-    let n = m.name;
+    let verdict = check_partial(s);
+    let n = cut_name(s);
     let name = PartialName(n);
-    if !ok {
-        let verdict = Verdict::Refused(Refusal::TooLong);
-        return CheckedPartial { verdict, name };
-    }
-    if !crate::validate::well_formed(s) {
-        let verdict = Verdict::Refused(Refusal::Malformed);
-        return CheckedPartial { verdict, name };
-    }
-    CheckedPartial {
-        verdict: Verdict::Accepted,
-        name,
-    }
+    CheckedPartial { verdict, name }
 }

@@ -1,17 +1,24 @@
 // Namespaces (namespace.rs).
+use crate::fullname::Slash;
+use crate::fullname::find_slash;
+use crate::name::Filled;
 use crate::name::LONGEST;
-use crate::name::Made;
 use crate::name::Name;
 use crate::name::Refusal;
 use crate::name::Verdict;
 use crate::name::empty;
-use crate::name::join;
-use crate::name::pushed;
+use crate::name::put_behind;
 use crate::validate::well_formed;
 ghost use mathlib.Core.Path.{_≡_};
-ghost use mathlib.Core.List.{_++_};
-ghost use Rattle.names.specs.Namespace.{expand, expanded};
-ghost use Rattle.names.specs.Means.{content, made-name, if-fits, checked-namespace};
+ghost use mathlib.Core.Bool.{true};
+ghost use mathlib.Core.Option.{none, some};
+ghost use Prim.Native.Nat.{_≤_};
+ghost use lib.ListN.{length};
+ghost use Rattle.names.specs.Check.{refuses};
+ghost use Rattle.names.specs.Name.{longest, fits};
+ghost use Rattle.names.specs.Namespace.{expand, names-check, expanded};
+ghost use Rattle.names.specs.Means.{content, filled, if-fits, number, check-of, checked-namespace};
+ghost use Rattle.names.specs.Promises.{first-part, width-in};
 
 // The expansion of a namespace: what goes before every name in it.
 pub struct Namespace(pub Name);
@@ -22,64 +29,115 @@ pub struct CheckedNamespace {
     pub name: Namespace,
 }
 
-// The name with two more parts behind it, where that fits.
-fn join_both(n: Name, s: &[u8], t: &[u8]) -> Made
-    ensures { λ r. ⌜ made-name r ≡ if-fits (content n ++ now (s .entry) ++ now (t .entry)) ⌝ }
+// What stands before the first slash.
+fn first_part(s: &[u8]) -> &[u8]
+    ensures { λ r. ⌜ now r ≡ first-part (now (s .entry)) ⌝ }
 {
-    let m = join(n, s);
-    let ok = m.ok;
-    if !ok {
-        return m;
+    let found = find_slash(s);
+    match found {
+        Slash::At(i) => &s[0..i],
+        Slash::Nowhere => s,
     }
-    let k = m.name;
-    join(k, t)
 }
 
-// refs/namespaces/a/refs/namespaces/b/ for a/b, where that fits.
-fn expansion(s: &[u8]) -> Made
-    ensures { λ r. ⌜ made-name r ≡ if-fits (expand (now (s .entry))) ⌝ }
+// refs/namespaces/a/refs/namespaces/b/ for a/b, where that fits: each component between refs/namespaces/ and a slash.
+fn put_expansion(out: &mut [u8; LONGEST], s: &[u8]) -> Filled
+    ensures { λ r. ⌜ filled (now (out .exit)) r ≡ if-fits (expand (now (s .entry))) ⌝ }
 {
-    let e = empty();
-    let mut out = pushed(e, b"refs/namespaces/");
+    let mut at = 0;
     let mut start = 0;
+    while start <= s.len() {
+        let part = first_part(&s[start..]);
+        let f = put_behind(out, at, b"refs/namespaces/", part, b"/");
+        match f {
+            Filled::To(end) => {
+                at = end;
+            }
+            Filled::TooLong => {
+                return Filled::TooLong;
+            }
+        }
+        start = start + part.len() + 1;
+    }
+    Filled::To(at)
+}
+
+// How many bytes a byte becomes in the expansion: with a slash comes the refs/namespaces/ of the next component.
+fn width_in(b: u8) -> usize
+    ensures { λ r. ⌜ r ≡ width-in b ⌝ }
+{
+    if b == b'/' {
+        return 17;
+    }
+    1
+}
+
+// The length of the expansion, counted so that a check need not make it: 16 bytes go before the first component, 1 behind the
+// last.
+fn expansion_len(s: &[u8]) -> usize
+    requires { ⌜ length (now s) ≤ longest ⌝ }
+    ensures { λ r. ⌜ r ≡ length (expand (now (s .entry))) ⌝ }
+{
+    let mut n = 17;
     let mut i = 0;
     while i < s.len() {
-        if s[i] == b'/' {
-            let m = join_both(out, &s[start..i], b"/refs/namespaces/");
-            let ok = m.ok;
-            if !ok {
-                return m;
-            }
-            out = m.name;
-            start = i + 1;
-        }
+        n += width_in(s[i]);
         i += 1;
     }
-    join_both(out, &s[start..], b"/")
+    n
 }
 
-// The namespace s: refused 3 over 250 bytes, then 4 if malformed, then 5 if its expansion is over 250 bytes.
+// Whether s is a namespace: refused 3 over 250 bytes, then 4 if malformed, then 5 if its expansion is over 250 bytes.
+pub fn check_namespace(s: &[u8]) -> Verdict
+    ensures { λ r. ⌜ check-of r ≡ names-check none (some (now (s .entry))) ⌝ }
+{
+    if s.len() > LONGEST {
+        return Verdict::Refused(Refusal::TooLong);
+    }
+    if !well_formed(s) {
+        return Verdict::Refused(Refusal::Malformed);
+    }
+    if expansion_len(s) > LONGEST {
+        return Verdict::Refused(Refusal::ExpansionTooLong);
+    }
+    Verdict::Accepted
+}
+
+// The expansion of s as a name, where one holds it.
+fn expansion(s: &[u8]) -> Name
+    ensures { λ r. ⌜ (fits (expand (now (s .entry))) ≡ true → content r ≡ expand (now (s .entry))) ⌝ }
+{
+    let mut n = empty();
+    let f = put_expansion(&mut n.bytes, s);
+    match f {
+        Filled::To(len) => {
+            n.len = len;
+            n
+        }
+        Filled::TooLong => n,
+    }
+}
+
+fn refused(why: Refusal) -> CheckedNamespace
+    ensures { λ r. ⌜ checked-namespace r ≡ refuses (number why) ⌝ }
+{
+    let e = empty();
+    let verdict = Verdict::Refused(why);
+    let name = Namespace(e);
+    CheckedNamespace { verdict, name }
+}
+
+// The namespace s, checked.
 pub fn expand(s: &[u8]) -> CheckedNamespace
     ensures { λ r. ⌜ checked-namespace r ≡ expanded (now (s .entry)) ⌝ }
 {
-    let m = expansion(s);
-    let ok = m.ok;
-    let n = m.name;
-    let name = Namespace(n);
-    if s.len() > LONGEST {
-        let verdict = Verdict::Refused(Refusal::TooLong);
-        return CheckedNamespace { verdict, name };
-    }
-    if !well_formed(s) {
-        let verdict = Verdict::Refused(Refusal::Malformed);
-        return CheckedNamespace { verdict, name };
-    }
-    if !ok {
-        let verdict = Verdict::Refused(Refusal::ExpansionTooLong);
-        return CheckedNamespace { verdict, name };
-    }
-    CheckedNamespace {
-        verdict: Verdict::Accepted,
-        name,
+    let verdict = check_namespace(s);
+    match verdict {
+        Verdict::Accepted => {
+            let n = expansion(s);
+            let name = Namespace(n);
+            CheckedNamespace { verdict, name }
+        }
+        Verdict::Refused(why) => refused(why),
     }
 }

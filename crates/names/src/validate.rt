@@ -5,13 +5,11 @@ use crate::bytes::in_range;
 use crate::bytes::starts_with;
 use crate::name::is_pseudo_ref;
 ghost use mathlib.Core.Path.{_≡_};
-ghost use mathlib.Core.List.{_∷_};
-ghost use mathlib.Core.Bool.{true};
-ghost use Prim.Native.Nat.{ℕ, _<_};
-ghost use lib.ListN.{length, getD};
-ghost use Rattle.names.specs.Bytes.{Bytes, slash};
+ghost use Prim.Native.Nat.{_+_, _≤_, _<_};
+ghost use lib.ListN.{length, drop, getD};
+ghost use Rattle.names.specs.Bytes.{slash};
 ghost use Rattle.names.specs.WellFormed.{allowed, well-formed, complete};
-ghost use Rattle.names.specs.Promises.{rules-after, fits-after};
+ghost use Rattle.names.specs.Promises.{rules-after, fits-after, before, plain, sure, all-sure};
 
 // No byte below 32, no 127, space, ~ ^ : ? * [ or backslash.
 fn allowed_byte(b: u8) -> bool
@@ -27,21 +25,11 @@ fn allowed_byte(b: u8) -> bool
     }
 }
 
-// Letters, digits and the like, of which most names are made: none breaks a rule, whatever stands before and behind it. They are
-// tested first, so that most bytes cost one test.
+// Letters, digits and the like, of which most names are made: none breaks a rule, whatever stands before and behind it.
 fn is_plain(b: u8) -> bool
-    ensures { λ r. ⌜ (r ≡ true → (p : ℕ) (s : Bytes) → fits-after p (b ∷ s) ≡ true) ⌝ }
+    ensures { λ r. ⌜ r ≡ plain b ⌝ }
 {
-    if in_range(b, b'_', b'z') {
-        return true;
-    }
-    if in_range(b, b'0', b'9') {
-        return true;
-    }
-    if in_range(b, b'@', b'Z') {
-        return true;
-    }
-    b == b'-'
+    in_range(b, b'_', b'z') | in_range(b, b'0', b'9') | in_range(b, b'@', b'Z') | (b == b'-')
 }
 
 // Does a dot that t begins with fit behind p? It begins no component, follows no dot, is not the last byte and begins no
@@ -76,7 +64,7 @@ fn slash_fits(p: u8, t: &[u8]) -> bool
     t.len() != 1
 }
 
-// Does the first byte of t fit behind p?
+// Does the first byte of t fit behind p? Most bytes are plain, so that is asked first.
 fn fits_after(p: u8, t: &[u8]) -> bool
     requires { ⌜ 0 < length (now t) ⌝ }
     ensures { λ r. ⌜ r ≡ fits-after p (now (t .entry)) ⌝ }
@@ -93,12 +81,64 @@ fn fits_after(p: u8, t: &[u8]) -> bool
     }
 }
 
-// Does every byte fit behind the one before? The first stands where a component begins, as if a slash were before it.
+// Does b fit between p and n, judged by these three bytes alone and with no branch? A byte that is not sure may fit still.
+fn is_sure(p: u8, b: u8, n: u8) -> bool
+    ensures { λ r. ⌜ r ≡ sure p b n ⌝ }
+{
+    is_plain(b) | (in_range(b, b'.', b'/') & !in_range(p, b'.', b'/') & ((b == b'/') | (n != b'l')))
+}
+
+// Are the eight bytes behind place i sure to fit? One way out of the loop: they are then judged at once.
+fn eight_sure(s: &[u8], i: usize) -> bool
+    requires { ⌜ i + 10 ≤ length (now s) ⌝ }
+    ensures { λ r. ⌜ r ≡ all-sure (now (s .entry)) i 8 ⌝ }
+{
+    let mut sure = true;
+    let mut j = 0;
+    while j < 8 {
+        sure = sure & is_sure(s[i + j], s[i + j + 1], s[i + j + 2]);
+        j += 1;
+    }
+    sure
+}
+
+// How many bytes in front are skipped, eight at a time, as sure to fit: in most names, all but the last few.
+fn sure_front(s: &[u8]) -> usize
+    ensures { λ r. ⌜ (r ≤ length (now (s .entry))) × (rules-after slash (now (s .entry)) ≡ rules-after (before (now (s .entry)) r) (drop r (now (s .entry)))) ⌝ }
+{
+    if s.len() < 10 {
+        return 0;
+    }
+    if !is_plain(s[0]) {
+        return 0;
+    }
+    let mut i = 0;
+    while 10 <= s.len() - i {
+        if !eight_sure(s, i) {
+            return i + 1;
+        }
+        i += 8;
+    }
+    i + 1
+}
+
+// The byte before place i. The first stands where a component begins, as if a slash were before it.
+fn byte_before(s: &[u8], i: usize) -> u8
+    requires { ⌜ i ≤ length (now s) ⌝ }
+    ensures { λ r. ⌜ r ≡ before (now (s .entry)) i ⌝ }
+{
+    if i == 0 {
+        return b'/';
+    }
+    s[i - 1]
+}
+
+// Does every byte fit behind the one before?
 fn all_fit(s: &[u8]) -> bool
     ensures { λ r. ⌜ r ≡ rules-after slash (now (s .entry)) ⌝ }
 {
-    let mut p = b'/';
-    let mut i = 0;
+    let mut i = sure_front(s);
+    let mut p = byte_before(s, i);
     while i < s.len() {
         if !fits_after(p, &s[i..]) {
             return false;

@@ -2,9 +2,10 @@
 use mathlib.Core.Path.{_≡_, refl, ap, sym, _∙_}
 use Prim.Native.Nat.{ℕ, zero, suc, _+_, _-_, _≤_, _<_}
 use mathlib.Core.List.{List, [], _∷_, _++_}
+use native.Mathlib.Numerals.{add-one}
 use native.Mathlib.Omega.{arith}
-use lib.ListN.{length, take, drop}
-use lib.Seq.{paste, paste-zero, take-length, take-paste}
+use lib.ListN.{length, take, drop, set, replicate, length-replicate, getD-replicate}
+use lib.Seq.{paste, paste-zero, paste-suc, take-length, take-paste}
 use Rattle.output.specs.Pasted.{pasted, Put}
 
 pub pasted-length : (b : List ℕ) (at : ℕ) (s : List ℕ) → length (pasted b at s) ≡ length b
@@ -53,6 +54,19 @@ copied (x ∷ b) zero (y ∷ s) (suc n) h k e =
 copied (x ∷ b) (suc at) s n h k e =
     let m : suc at + n ≡ suc (at + n) = omega arith in
     rw m (ap (λ (l : List ℕ). x ∷ l) (copied b at s n (omega (arith, h)) k (λ (l : n < length s). omega (arith, e l))))
+
+-- one zero more, and all that find room
+pub zero-more : (b : List ℕ) (at k i : ℕ) → at + i < length b → i < k → set (paste b at (replicate k 0) i) (at + i) 0 ≡ paste b at (replicate k 0) (i + 1)
+zero-more b at k i h l =
+    let z : List ℕ = replicate k 0 in
+    let inside : i < length z = omega (arith, l, length-replicate {A = ℕ} k 0) in
+    rw add-one (rw (getD-replicate {A = ℕ} k i 0 0 l) at (paste-suc b at z i 0 h inside))
+
+pub zeroed : (b : List ℕ) (at k n : ℕ) → n ≤ length b - at → n ≤ k → (n < k → length b ≤ at + n) → paste b at (replicate k 0) n ≡ pasted b at (replicate k 0)
+zeroed b at k n h l e =
+    let z : List ℕ = replicate k 0 in
+    let size : length z ≡ k = length-replicate {A = ℕ} k 0 in
+    copied b at z n h (omega (arith, l, size)) (λ (m : n < length z). e (omega (arith, m, size)))
 
 -- what has room stands behind what lay before it
 pasted-behind : (b : List ℕ) (at : ℕ) (s : List ℕ) → at + length s ≤ length b → take (at + length s) (pasted b at s) ≡ take at b ++ s

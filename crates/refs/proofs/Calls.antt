@@ -12,8 +12,8 @@ use Rattle.blocks.specs.Means.{id-width}
 use Rattle.refs.specs.Answer.{Answer}
 use Rattle.refs.specs.Search.{Searched, after-checks, call-check, find}
 use Rattle.refs.specs.Follow.{Followed, follow}
-use Rattle.refs.specs.Promises.{search-answer, following-of, passed}
-use Rattle.refs.specs.Means.{gated, answer-only}
+use Rattle.refs.specs.Promises.{search-answer, following-of}
+use Rattle.refs.specs.Means.{passed, gated, answer-only}
 use Rattle.refs.specs.declared.check.Gate.{Gate}
 use Rattle.refs.specs.declared.check.Gate.the-variants as gate
 use Rattle.refs.proofs.Checks.{gate-stops, Passes, gate-passes}

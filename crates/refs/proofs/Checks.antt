@@ -13,8 +13,8 @@ use Rattle.blocks.specs.Fitness.{Flaw, first-flaw}
 use Rattle.blocks.specs.Snapshot.{Snapshot, or-empty, store, or-flaw, store-flaw}
 use Rattle.blocks.specs.Means.{id-width, if-there}
 use Rattle.refs.specs.Search.{answers, turned-away, unfit, after-checks}
-use Rattle.refs.specs.Promises.{FitRegions, passed}
-use Rattle.refs.specs.Means.{gated}
+use Rattle.refs.specs.Promises.{FitRegions}
+use Rattle.refs.specs.Means.{passed, gated}
 use Rattle.refs.specs.declared.check.Gate.{Gate}
 use Rattle.refs.specs.declared.check.Gate.the-variants as gate
 

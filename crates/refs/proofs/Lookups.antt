@@ -7,17 +7,27 @@ use mathlib.Core.Option.{Option, none, some, Option·map}
 use Rattle.names.specs.Bytes.{Bytes, if_then_else_}
 use Rattle.names.specs.Route.{Base, own, shared, at, route, packed-name}
 use Rattle.blocks.specs.Block.{Region}
-use Rattle.blocks.specs.Entry.{Entry, damaged, failed, loose, unread, packed-record, entry, entries}
+use Rattle.blocks.specs.Content.{Reading, reads, unreadable, read}
+use Rattle.blocks.specs.Entry.{Entry, damaged, failed, loose, unread, packed-record, entry, first-blocks, blocks, entries}
+use Rattle.blocks.specs.Fitness.{flaw-from, first-flaw}
 use Rattle.blocks.specs.Means.{id-width, block-count, block-at, name-within, entry-in, if-there, snapshot-of}
 use Rattle.blocks.proofs.Raw.{IsRecord, packed-entry}
 use Rattle.blocks.proofs.Entries.{entry-there}
-use Rattle.refs.specs.Answer.{Answer, nothing, says, strip-answer, block-of}
+use Rattle.refs.specs.Answer.{Answer, nothing, reading-says, says, strip-reference, strip-answer, block-of}
 use Rattle.blocks.specs.Snapshot.{Store, store, common-or, region-at}
 use Rattle.refs.specs.Search.{clashes, deciding, file-of, record-of, entry-for, answer-of}
-use Rattle.refs.specs.Promises.{Flawless, FitRegions, IndexOf, ClashOf, IndexAnswer, says-at, in-common, candidate-answer}
+use Rattle.refs.specs.Promises.{Flawless, FitRegions, IndexOf, ClashOf, IndexAnswer, PackedIndex, says-at, in-common, kind-read, candidate-answer, is-answer, source-region, source-bytes, source-at, source-entry, is-source, FlawlessSource, SourceOf, said-reference, source-name, source-content, HitOf, SourceSaid, HitReference}
+use Rattle.refs.specs.declared.find.Source.{Source}
+use Rattle.refs.specs.declared.find.Hit.{Hit}
+use Rattle.refs.specs.declared.raw.Said.{Said}
+use Rattle.refs.specs.declared.raw.Reference as code
+use Rattle.refs.specs.Means.{answer-with, reference-of}
+use Rattle.names.specs.Means.{content}
+use Rattle.refs.specs.declared.find.Source.the-variants as source
 use Rattle.refs.specs.declared.find.Index.{Index}
 use Rattle.refs.specs.declared.find.Index.the-variants.{At, Nothing}
 use Rattle.refs.proofs.Regions.{block-named}
+use Rattle.refs.proofs.Says.{strip-with}
 
 module _ (r : Region) (s p : Bytes) (f : Flawless r s) (i : Index) (h : IndexOf p s i) where
   -- the block that was found
@@ -74,10 +84,39 @@ module _ (e c : Bytes) (s : Store) (a : Answer) where
 
 -- ---- the routed region
 
--- which region it is
-abbrev pub kind-read : Bool → Region
-kind-read true = Region.common
-kind-read false = Region.worktree
+-- ---- the source of an answer
+
+-- an entry always answers
+reading-answers : (e n : Bytes) (d : Reading) → is-answer (strip-answer e (reading-says n d)) ≡ true
+reading-answers e n (reads t) = refl
+reading-answers e n (unreadable k) = refl
+
+entry-answers : (e n : Bytes) (x : Entry) → is-answer (strip-answer e (says id-width n x)) ≡ true
+entry-answers e n damaged = refl
+entry-answers e n failed = refl
+entry-answers e n (loose m d) = reading-answers e n (read id-width d)
+entry-answers e n (unread m) = refl
+entry-answers e n (packed-record m t q) = refl
+
+module _ (e w c p n : Bytes) (a : Answer) where
+  -- no source, no answer
+  pub no-source : nothing ≡ a → SourceOf e w c p n source.Nothing a
+  unfolding entries blocks first-blocks first-flaw flaw-from
+  no-source h = record { answer = h; there = rw (← h); fit = refl }
+
+  -- the answer of a block that is there
+  pub a-source : (o : Source) → is-source o ≡ true → source-at o < block-count (source-bytes w c p o) → FlawlessSource w c p o
+      → strip-answer e (says-at n (source-entry w c p o)) ≡ a → SourceOf e w c p n o a
+  a-source o t l f h =
+      record {
+        answer = h;
+        there = rw (← h, entry-there id-width (source-region o) (source-bytes w c p o) (source-at o) l) (entry-answers e n (entry id-width (source-region o) (block-at (source-bytes w c p o) (source-at o))) ∙ sym t);
+        fit = f;
+      }
+
+  -- under another equation
+  pub same-source : (o : Source) (b : Answer) → a ≡ b → SourceOf e w c p n o a → SourceOf e w c p n o b
+  same-source o b h g = rw (← h) g
 
 module _ (w c p : Bytes) (has : Bool) where
   region-is : (b : Base) → region-at b (store id-width (snapshot-of w (if-there has c) p)) ≡ entries id-width (kind-read (in-common b has)) (if in-common b has then c else w)
@@ -108,12 +147,38 @@ module _ (w c p : Bytes) (has : Bool) where
       lookup-clash h = sym (decided ∙ rw (← h (kind-read (in-common b has)) (region-fit b)))
 
       module _ (h : ClashOf (e ++ path) (if in-common b has then c else w) false) (i : Index) (g : IndexOf (e ++ path) (if in-common b has then c else w) i) where
-        pub lookup-loose : (k : ℕ) → i ≡ At k → (a : Answer) → a ≡ strip-answer e (says-at n (entry-in id-width (kind-read (in-common b has)) (if in-common b has then c else w) k)) → a ≡ candidate-answer e (snapshot-of w (if-there has c) p) n seek
-        lookup-loose k j a f =
-            let m = found-block (kind-read (in-common b has)) (if in-common b has then c else w) (e ++ path) (region-fit b) i g k j in
-            found-answer (kind-read (in-common b has)) (if in-common b has then c else w) (e ++ path) (region-fit b) i g e n k j a f
-            ∙ sym (decided ∙ rw (← h (kind-read (in-common b has)) (region-fit b), m .1))
+        pub lookup-loose : (k : ℕ) → i ≡ At k → SourceOf e w c p n (source.Loose (in-common b has) k) (candidate-answer e (snapshot-of w (if-there has c) p) n seek)
+        lookup-loose k j =
+            let r = kind-read (in-common b has) in
+            let t = if in-common b has then c else w in
+            let m = found-block r t (e ++ path) (region-fit b) i g k j in
+            a-source e w c p n _ (source.Loose (in-common b has) k) refl (m .0) (region-fit b)
+            (found-answer r t (e ++ path) (region-fit b) i g e n k j _ refl ∙ sym (decided ∙ rw (← h r (region-fit b), m .1)))
 
         pub lookup-packed : i ≡ Nothing → (a : Answer) → a ≡ answer-of id-width e n (record-of e (store id-width (snapshot-of w (if-there has c) p)) seek (packed-name n)) → a ≡ candidate-answer e (snapshot-of w (if-there has c) p) n seek
         lookup-packed j a f =
             f ∙ sym (decided ∙ rw (← h (kind-read (in-common b has)) (region-fit b), found-none (kind-read (in-common b has)) (if in-common b has then c else w) (e ++ path) (region-fit b) i g j))
+
+        module _ (j : i ≡ Nothing) (x : Index) (l : PackedIndex e n seek p x) where
+          pub lookup-record : (k : ℕ) → x ≡ At k → SourceOf e w c p n (source.Packed k) (candidate-answer e (snapshot-of w (if-there has c) p) n seek)
+          unfolding store
+          lookup-record k y =
+              let o : PackedIndex e n seek p (At k) = rw (← y) l in
+              let a = strip-answer e (says-at n (entry-in id-width Region.packed p k)) in
+              a-source e w c p n _ (source.Packed k) refl (o .inside) (fit .packed)
+              (lookup-packed j a (o .is (store id-width (snapshot-of w (if-there has c) p)) refl a (record { name = n; is = refl })))
+
+          pub lookup-none : x ≡ Nothing → SourceOf e w c p n source.Nothing (candidate-answer e (snapshot-of w (if-there has c) p) n seek)
+          unfolding store
+          lookup-none y =
+              let o : PackedIndex e n seek p Nothing = rw (← y) l in
+              no-source e w c p n _ (lookup-packed j nothing (o .is (store id-width (snapshot-of w (if-there has c) p)) refl nothing refl))
+
+-- ---- the answer of a hit
+
+module _ (e w c p : Bytes) (h : Hit) (a : Answer) (g : HitOf e w c p h a) (s : Said) (q : SourceSaid w c p (h .source) s) where
+  pub hit-outcome : a ≡ answer-with (s .outcome) (strip-reference e (said-reference s (content (h .name)) (source-name w c p (h .source)) (source-content w c p (h .source))))
+  hit-outcome = sym (g .answer) ∙ rw (← q (content (h .name))) (sym (strip-with e (s .outcome) _))
+
+  pub hit-answer : (r : code.Reference) → HitReference e w c p h s r → a ≡ answer-with (s .outcome) (reference-of r)
+  hit-answer r k = hit-outcome ∙ rw (← k)

@@ -2,33 +2,34 @@
 use mathlib.Core.Path.{_≡_, refl, sym, _∙_}
 use Prim.Native.Nat.{ℕ, _≤_}
 use native.Mathlib.Omega.{arith}
-use mathlib.Core.List.{[], _∷_}
+use mathlib.Core.List.{[]}
 use mathlib.Core.Bool.{Bool, true, false}
 use mathlib.Core.Option.{Option, none, some}
-use borrow.Author.Tests.{leb-true, le-leb}
+use borrow.Author.Tests.{leb-true}
 use lib.Dec.{leb, ltb}
 use lib.ListN.{length, take, drop, length-take}
-use Rattle.names.specs.Bytes.{Bytes, if_then_else_, starts-with, strip}
-use Rattle.names.specs.Means.{content, made-name, if-fits}
-use Rattle.names.specs.declared.name.Made.{Made}
-use Rattle.names.proofs.Held.{made-ok, made-is}
+use lib.Seq.{take-all}
+use Rattle.names.specs.Bytes.{Bytes, if_then_else_, strip}
+use Rattle.names.specs.Means.{held, content}
+use Rattle.names.proofs.Prefix.{strip-length}
 use Rattle.names.specs.Name.{longest}
 use Rattle.blocks.specs.Layout.{name-at, content-at, longest-content}
 use Rattle.blocks.specs.Block.{Region, name-length, content-length, block-name, block-content}
-use Rattle.blocks.specs.Content.{Target, object, symbolic}
+use Rattle.blocks.specs.Content.{object}
 use Rattle.blocks.specs.Entry.{packed-record}
-use Rattle.blocks.specs.Means.{id-width, block-count, block-at, name-in, content-in, entry-in, as-entry, id-in}
+use Rattle.blocks.specs.Means.{id-width, block-count, block-at, name-in, content-in, entry-in, as-entry, id-in, target-name-in}
 use Rattle.blocks.specs.declared.block.EntryKind.{EntryKind}
 use Rattle.blocks.specs.declared.block.EntryKind.the-variants.{Record, PeeledRecord}
 use Rattle.blocks.proofs.Sound.{Ids, record-ids, target-id, peeled-id}
-use Rattle.refs.specs.Answer.{Answer, nothing, found, refused, strip-target, strip-reference, strip-answer}
+use Rattle.refs.specs.Answer.{Reference, Answer, found, strip-target, strip-reference, strip-answer}
 use Rattle.refs.specs.declared.raw.Kind.{Kind}
 use Rattle.refs.specs.declared.raw.Kind.the-variants.{Object, Symbolic}
 use Rattle.refs.specs.declared.raw.Outcome.{Outcome}
 use Rattle.refs.specs.declared.raw.Outcome.the-variants as outcome
 use Rattle.refs.specs.declared.raw.Reference as code
+use Rattle.refs.specs.declared.raw.Said.{Said}
 use Rattle.refs.specs.Means.{target-of, reference-of, answer-with}
-use Rattle.refs.specs.Promises.{says-at, BlockIs}
+use Rattle.refs.specs.Promises.{says-at, BlockIs, said-reference, said-answer, TargetPart}
 
 module _ (r : Region) (s : Bytes) (k : ℕ) (kind : EntryKind) (name c n : Bytes) (b : BlockIs r s k kind name c) where
   -- the answer is that of the kind
@@ -70,35 +71,33 @@ pub content-short : (s : Bytes) (k : ℕ) → length (content-in s k) ≤ longes
 unfolding block-content
 content-short s k = in-longest longest-content (ltb k (block-count s)) _ (within-longest longest-content (content-length (block-at s k)) (drop content-at (block-at s k)))
 
--- so a name made of a block's name holds it
-pub name-made : (m : Made) (s : Bytes) (k : ℕ) → made-name m ≡ if-fits (name-in s k) → content (m .name) ≡ name-in s k
-name-made m s k e = made-is m (name-in s k) e (made-ok m (name-in s k) e ∙ le-leb (length (name-in s k)) longest (name-short s k))
+-- ---- the reference that is said
 
--- ---- stripping
+-- what was put into a name, where it fits
+pub filled-whole : (b s : Bytes) (k : ℕ) → held b k ≡ take longest s → length s ≤ longest → held b k ≡ s
+filled-whole b s k e h = e ∙ take-all longest s h
 
-strip-kind : (e : Bytes) (kind : Kind) (id name : Bytes) → strip-target e (target-of kind id name) ≡ target-of kind id (strip e name)
-strip-kind e Object id name = refl
-strip-kind e Symbolic id name = refl
+-- stripped, it still fits
+pub strip-fits : (e s : Bytes) (m : ℕ) → length s ≤ m → length (strip e s) ≤ m
+strip-fits e s m h = omega (arith, strip-length e s)
 
-module _ (e : Bytes) (r q : code.Reference) where
-  pub strip-parts : content (q .name) ≡ strip e (content (r .name)) → content (q .target) ≡ strip e (content (r .target)) → q .kind ≡ r .kind → q .id ≡ r .id
-      → q .«has_peeled» ≡ r .«has_peeled» → q .peeled ≡ r .peeled → reference-of q ≡ strip-reference e (reference-of r)
-  strip-parts n t k i h p = rw (n, t, k, i, h, p, strip-kind e (r .kind) (r .id .digits) (content (r .target)))
+-- one of two names
+pub either-fits : (m : ℕ) (b : Bool) (s t : Bytes) → length s ≤ m → length t ≤ m → length (if b then s else t) ≤ m
+either-fits m true s t h g = h
+either-fits m false s t h g = g
 
-  pub strip-outcome : (o : Outcome) → reference-of q ≡ strip-reference e (reference-of r) → answer-with o (reference-of q) ≡ strip-answer e (answer-with o (reference-of r))
-  strip-outcome outcome.Nothing h = refl
-  strip-outcome outcome.Found h = rw h
-  strip-outcome (outcome.Refused why) h = refl
+target-said : (kind : Kind) (e id c t : Bytes) → TargetPart kind c t → target-of kind id (strip e t) ≡ strip-target e (target-of kind id (target-name-in c))
+target-said Object e id c t h = refl
+target-said Symbolic e id c t h = rw h
 
--- nothing is stripped without a namespace
-target-stays : (t : Target) → t ≡ strip-target [] t
-unfolding strip starts-with
-target-stays (object id) = refl
-target-stays (symbolic n) = refl
+module _ (e : Bytes) (s : Said) (n own c t : Bytes) (r : code.Reference) where
+  pub said-parts : content (r .name) ≡ strip e (if s .«from_packed» then own else n) → TargetPart (s .kind) c t → content (r .target) ≡ strip e t → r .kind ≡ s .kind
+      → r .id .digits ≡ id-in id-width c → r .«has_peeled» ≡ s .«has_peeled» → r .peeled .digits ≡ id-in id-width (drop id-width c)
+      → reference-of r ≡ strip-reference e (said-reference s n own c)
+  said-parts a b d k i h p = rw (a, d, k, i, h, p, target-said (s .kind) e (id-in id-width c) c t b)
 
-pub answer-stays : (e : Bytes) → length e ≡ 0 → (a : Answer) → a ≡ strip-answer e a
-unfolding strip starts-with
-answer-stays [] h nothing = refl
-answer-stays [] h (found r) = rw (← target-stays (r .target))
-answer-stays [] h (refused k) = refl
-answer-stays (b ∷ e) h a = absurd (omega arith)
+-- stripping keeps the outcome
+pub strip-with : (e : Bytes) (o : Outcome) (r : Reference) → answer-with o (strip-reference e r) ≡ strip-answer e (answer-with o r)
+strip-with e outcome.Nothing r = refl
+strip-with e outcome.Found r = refl
+strip-with e (outcome.Refused why) r = refl

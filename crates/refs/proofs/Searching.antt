@@ -8,9 +8,10 @@ use Rattle.names.specs.Bytes.{Bytes, bytes, if_then_else_, same}
 use Rattle.names.specs.Name.{is-pseudo}
 use lib.ListN.{take, drop}
 use Rattle.names.specs.Candidates.{Candidate, full-name, pass, passes, last-candidate, sought-packed}
-use Rattle.names.specs.Means.{content, made-name, if-fits}
-use Rattle.names.specs.declared.name.Made.{Made}
-use Rattle.names.proofs.Held.{made-ok, made-is}
+use Rattle.names.specs.Means.{held, filled, if-fits}
+use Rattle.names.specs.declared.name.Filled.{Filled}
+use Rattle.names.specs.declared.name.Filled.the-variants.{To, TooLong}
+use Rattle.names.proofs.Held.{filled-is, filled-fits, filled-refused}
 use Rattle.names.proofs.Passes.{candidates-are, passes-are, pass-is, last-of-head, last-of-other}
 use Rattle.blocks.specs.Snapshot.{Snapshot, store}
 use Rattle.blocks.specs.Means.{id-width}
@@ -29,16 +30,16 @@ or-right (found r) b h = absurd (true≢false h)
 or-right (refused k) b h = absurd (true≢false h)
 
 module _ (e : Bytes) (s : Snapshot) where
-  -- ---- a candidate that was made
+  -- ---- a candidate that was put into bytes
 
-  module _ (m : Made) (n : Bytes) (h : made-name m ≡ if-fits n) (seek : Bool) where
-    pub made-absent : m .ok ≡ false → nothing ≡ looked-up e s n seek
+  module _ (b : Bytes) (f : Filled) (n : Bytes) (h : filled b f ≡ if-fits n) (seek : Bool) where
+    pub filled-absent : f ≡ TooLong → nothing ≡ looked-up e s n seek
     unfolding lookup
-    made-absent k = rw (sym (made-ok m n h) ∙ k)
+    filled-absent g = rw (filled-refused b n f h g)
 
-    pub made-there : m .ok ≡ true → (a : Answer) → a ≡ candidate-answer e s (content (m .name)) seek → a ≡ looked-up e s n seek
+    pub filled-there : (k : ℕ) → f ≡ To k → candidate-answer e s (held b k) seek ≡ looked-up e s n seek
     unfolding lookup
-    made-there k a g = g ∙ rw (made-is m n h k, sym (made-ok m n h) ∙ k)
+    filled-there k g = rw (filled-is b n f h k g, filled-fits b n f h k g)
 
   -- ---- names one after the other
 

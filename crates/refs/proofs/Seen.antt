@@ -4,7 +4,7 @@ use Prim.Native.Nat.{ℕ, zero, suc, _+_, _-_, _≤_, _<_}
 use native.Mathlib.Numerals.{add-one}
 use native.Mathlib.Omega.{arith}
 use mathlib.Core.List.{List, [], _∷_, _++_, map}
-use mathlib.Core.Bool.{Bool, true, false, _||_}
+use mathlib.Core.Bool.{Bool, true, false, _||_, true≢false, false≢true}
 use lib.ListN.{length, take, drop, getD, set, drop-of-length-le}
 use lib.Seq.{drop-cons, take-suc-set}
 use Rattle.names.specs.Bytes.{Bytes, same}
@@ -15,10 +15,15 @@ use Rattle.blocks.specs.Snapshot.{Snapshot, Store, store}
 use Rattle.blocks.specs.Means.{id-width}
 use Rattle.refs.specs.Answer.{Reference, Answer, nothing, found, refused}
 use Rattle.refs.specs.Search.{search}
-use Rattle.refs.specs.Follow.{Followed, stopped, on-target, on-answer, max-ref-depth, among, follow-from}
-use Rattle.refs.specs.Means.{reference-of, followed-of}
-use Rattle.refs.specs.Promises.{turn-of, TurnOf}
-use Rattle.refs.specs.declared.raw_ext.Turn.{Turn}
+use Rattle.refs.specs.Follow.{Followed, stopped, on-target, on-answer, max-ref-depth, among, follow-from, follow-answer}
+use Rattle.refs.specs.Means.{target-of, answer-with, reference-of, followed-of}
+use Rattle.refs.specs.Promises.{is-object, is-found, ending-of, start-of, search-answer}
+use Rattle.refs.specs.declared.raw.Kind.{Kind}
+use Rattle.refs.specs.declared.raw.Kind.the-variants.{Object, Symbolic}
+use Rattle.refs.specs.declared.raw.Outcome.{Outcome}
+use Rattle.refs.specs.declared.raw.Outcome.the-variants as outcome
+use Rattle.refs.specs.declared.raw.Reference as code
+use Rattle.refs.specs.declared.raw_ext.Ending.the-variants as ending
 
 -- ---- the array
 
@@ -83,29 +88,67 @@ module _ (width : ℕ) (e : Bytes) (s : Store) where
 
 -- ---- the turns of following
 
+object-kind : (k : Kind) → is-object k ≡ true → k ≡ Object
+object-kind Object g = refl
+object-kind Symbolic g = absurd (false≢true g)
+
+symbolic-kind : (k : Kind) → is-object k ≡ false → k ≡ Symbolic
+symbolic-kind Object g = absurd (true≢false g)
+symbolic-kind Symbolic g = refl
+
+pub found-outcome : (o : Outcome) → is-found o ≡ true → o ≡ outcome.Found
+found-outcome outcome.Nothing f = absurd (false≢true f)
+found-outcome outcome.Found f = refl
+found-outcome (outcome.Refused why) f = absurd (false≢true f)
+
 module _ (e : Bytes) (s : Snapshot) where
   -- following after n names
   abbrev pub after-names : ℕ → List Bytes → Reference → Followed
   after-names n seen r = follow-from id-width e (store id-width s) (max-ref-depth - n) seen r
 
-  module _ (n : ℕ) (h : n < max-ref-depth) (seen : List Bytes) (r : Reference) (t : Turn) (q : TurnOf e s seen r t) where
-    turned : after-names n seen r ≡ turn-of (λ x. after-names (n + 1) (x .name ∷ seen) x) t
+  module _ (n : ℕ) (h : n < max-ref-depth) (seen : List Bytes) (r : code.Reference) where
+    -- from the next reference on
+    abbrev goes : Reference → Followed
+    goes x = after-names (n + 1) (x .name ∷ seen) x
+
+    turned : after-names n seen (reference-of r) ≡ on-target (reference-of r) (target-of (r .kind) (r .id .digits) (content (r .target))) (λ t. on-answer seen (reference-of r) (search-answer e s t) goes)
     unfolding follow-from
-    turned =
-        let k : max-ref-depth - n ≡ suc (max-ref-depth - (n + 1)) = omega arith in
-        rw k (sym (q (λ x. after-names (n + 1) (x .name ∷ seen) x)))
+    turned = let k : max-ref-depth - n ≡ suc (max-ref-depth - (n + 1)) = omega arith in rw k
 
-    pub turn-ends : t .go ≡ false → followed-of (t .ending) (t .reference) ≡ after-names n seen r
-    turn-ends g = sym (turned ∙ rw g)
+    pub object-ends : is-object (r .kind) ≡ true → followed-of ending.Reached r ≡ after-names n seen (reference-of r)
+    object-ends g = sym (turned ∙ rw (object-kind (r .kind) g))
 
-    -- the next name goes to the end of those seen
-    pub turn-goes : t .go ≡ true → after-names n seen r ≡ after-names (n + 1) (seen ++ (content (t .reference .name) ∷ [])) (reference-of (t .reference))
-    turn-goes g =
-        turned
-        ∙ rw g
-        (follow-alike id-width e (store id-width s) (max-ref-depth - (n + 1)) (content (t .reference .name) ∷ seen) (seen ++ (content (t .reference .name) ∷ []))
-        (λ x. sym (among-snoc x (content (t .reference .name)) seen)) (reference-of (t .reference)))
+    module _ (g : is-object (r .kind) ≡ false) (a : Answer) (q : search-answer e s (content (r .target)) ≡ a) where
+      searched : after-names n seen (reference-of r) ≡ on-answer seen (reference-of r) a goes
+      searched = turned ∙ rw (symbolic-kind (r .kind) g, q)
+
+      pub not-found-ends : (o : Outcome) (x : Reference) → is-found o ≡ false → a ≡ answer-with o x → followed-of (ending-of o) r ≡ after-names n seen (reference-of r)
+      not-found-ends o x f k = sym (searched ∙ rw k (go o f))
+        where
+          go : (o : Outcome) → is-found o ≡ false → on-answer seen (reference-of r) (answer-with o x) goes ≡ followed-of (ending-of o) r
+          go outcome.Nothing f = refl
+          go outcome.Found f = absurd (true≢false f)
+          go (outcome.Refused why) f = refl
+
+      module _ (x : code.Reference) (k : a ≡ found (reference-of x)) where
+        pub cycle-ends : among (content (x .name)) seen ≡ true → stopped 14 (reference-of r) ≡ after-names n seen (reference-of r)
+        cycle-ends m = sym (searched ∙ rw (k, m))
+
+        -- the next name goes to the end of those seen
+        pub goes-on : among (content (x .name)) seen ≡ false → after-names n seen (reference-of r) ≡ after-names (n + 1) (seen ++ (content (x .name) ∷ [])) (reference-of x)
+        goes-on m =
+            searched
+            ∙ rw (k, m)
+            (follow-alike id-width e (store id-width s) (max-ref-depth - (n + 1)) (content (x .name) ∷ seen) (seen ++ (content (x .name) ∷ []))
+            (λ y. sym (among-snoc y (content (x .name)) seen)) (reference-of x))
 
   pub depth-reached : (n : ℕ) → max-ref-depth ≤ n → (seen : List Bytes) (r : Reference) → stopped 15 r ≡ after-names n seen r
   unfolding follow-from
   depth-reached n h seen r = let k : max-ref-depth - n ≡ 0 = omega arith in rw k
+
+  -- ---- the first search
+
+  pub start-ends : (r : code.Reference) (o : Outcome) (x : Reference) → is-found o ≡ false → followed-of (start-of o) r ≡ follow-answer id-width e (store id-width s) (answer-with o x)
+  start-ends r outcome.Nothing x f = refl
+  start-ends r outcome.Found x f = absurd (true≢false f)
+  start-ends r (outcome.Refused why) x f = refl

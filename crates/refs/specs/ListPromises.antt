@@ -2,24 +2,28 @@
 -- not speak of them.
 use mathlib.Core.Path.{_≡_}
 use mathlib.Core.Bool.{Bool, true, false}
+use mathlib.Core.List.{[]}
 use mathlib.Core.Option.{Option, none, some}
 use Prim.Native.Nat.{ℕ, Ordering, Ordering·lt, Ordering·eq, Ordering·gt}
-use Rattle.names.specs.Bytes.{Bytes}
+use Rattle.names.specs.Bytes.{Bytes, if_then_else_}
 use Rattle.blocks.specs.Block.{Region}
 use Rattle.blocks.specs.Entry.{Entry, entries}
-use Rattle.blocks.specs.Means.{id-width, name-in, entry-in, region-of}
+use Rattle.blocks.specs.Means.{id-width, name-in, content-in, as-entry, entry-in, region-of}
 use Rattle.blocks.specs.declared.block.EntryKind.{EntryKind}
 use Rattle.blocks.specs.declared.block.EntryKind.the-variants.{End, Damaged, Failed, Loose, Unread, Record, PeeledRecord}
-use Rattle.refs.specs.Answer.{Reference, Answer, nothing, strip-answer}
+use Rattle.refs.specs.Answer.{Reference, Answer, nothing, refused, strip-reference, strip-answer}
 use Rattle.refs.specs.View.{Seen, Scope, scope, see, worktree-shows, common-shows, packed-shows}
 use Rattle.refs.specs.Listing.{Waiting, none-left, error, named, Offer, least, past, Positions, Move, by-name, choose, peek}
-use Rattle.refs.specs.Run.{State, Step, is-nothing}
-use Rattle.refs.specs.Means.{answer-with, listed-with}
-use Rattle.refs.specs.Promises.{says-at}
+use Rattle.refs.specs.Run.{is-nothing}
+use Rattle.refs.specs.Means.{reference-of, answer-with, listed-with}
+use Rattle.refs.specs.Promises.{says-at, said-reference, said-answer}
 use Rattle.refs.specs.declared.overlay_iter.Left.{Left}
 use Rattle.refs.specs.declared.overlay_iter.Listed.{Listed}
+use Rattle.blocks.specs.declared.fitness.Sizes.{Sizes}
+use Rattle.blocks.specs.declared.fitness.Sizes.the-variants as sizes
 use Rattle.refs.specs.declared.raw.Outcome.{Outcome}
-use Rattle.refs.specs.declared.raw.Reason.the-variants.{Damaged, Unread}
+use Rattle.refs.specs.declared.raw.Said.{Said}
+use Rattle.refs.specs.declared.raw.Reference as code
 use Rattle.refs.specs.declared.overlay_iter.Left.the-variants as left
 use Rattle.refs.specs.declared.overlay_iter.Waiting as waiting
 use Rattle.refs.specs.declared.overlay_iter.Offer as offer
@@ -115,6 +119,41 @@ positions-of at = record { worktree = at .worktree; common = at .common; packed 
 abbrev pub move-of : Bytes → Bytes → Bytes → Bytes → move.Move → Move
 move-of e w c p m = record { answer = offered (offer-of e w c p (m .given)); next = positions-of (m .next) }
 
+-- ---- the block that is handed out
+
+-- its region; an empty one where none is
+abbrev pub offer-region : offer.Offer → Region
+offer-region offer.the-variants.Nothing = Region.worktree
+offer-region (offer.the-variants.From r k) = region-of r
+
+abbrev pub offer-bytes : Bytes → Bytes → Bytes → offer.Offer → Bytes
+offer-bytes w c p offer.the-variants.Nothing = []
+offer-bytes w c p (offer.the-variants.From r k) = part-of w c p (region-of r)
+
+-- its number there
+abbrev pub offer-at : offer.Offer → ℕ
+offer-at offer.the-variants.Nothing = 0
+offer-at (offer.the-variants.From r k) = k
+
+-- its name and content
+abbrev pub offer-name : Bytes → Bytes → Bytes → offer.Offer → Bytes
+offer-name w c p o = name-in (offer-bytes w c p o) (offer-at o)
+
+abbrev pub offer-content : Bytes → Bytes → Bytes → offer.Offer → Bytes
+offer-content w c p o = content-in (offer-bytes w c p o) (offer-at o)
+
+-- the kind is its entry's
+abbrev pub OfferKind : Bytes → Bytes → Bytes → offer.Offer → EntryKind → Type 0
+OfferKind w c p o kind = as-entry id-width kind (offer-name w c p o) (offer-content w c p o) ≡ entry-in id-width (offer-region o) (offer-bytes w c p o) (offer-at o)
+
+-- s is what it says under its own name
+abbrev pub OfferSaid : Bytes → Bytes → Bytes → offer.Offer → Said → Type 0
+OfferSaid w c p o s = (e : Bytes) → strip-answer e (said-answer s (offer-name w c p o) (offer-name w c p o) (offer-content w c p o)) ≡ offered (offer-of e w c p o)
+
+-- r is the reference that it says, stripped
+abbrev pub OfferReference : Bytes → Bytes → Bytes → Bytes → offer.Offer → Said → code.Reference → Type 0
+OfferReference e w c p o s r = reference-of r ≡ strip-reference e (said-reference s (offer-name w c p o) (offer-name w c p o) (offer-content w c p o))
+
 -- ---- what the parts of a choice promise, whatever is stripped
 
 -- o is the lesser of what waits in the region r and of q
@@ -158,14 +197,45 @@ Lists o l = (r : Reference) → listed-with l r ≡ answer-with o r
 abbrev pub Ends : Outcome → Bool → Type 0
 Ends o b = (r : Reference) → b ≡ is-nothing (answer-with o r)
 
--- the step to the positions p under the expansion e
-abbrev pub moved-on : Bytes → Positions → Answer → Step
-moved-on e p a = record { answer = a; next = record { at = p; ended = is-nothing a; expansion = e } }
+-- the move in the regions w, c, p from the positions on, under the expansion e
+abbrev pub move-in : Bytes → Bytes → Bytes → Bytes → Positions → Move
+move-in e w c p at =
+    choose (peek (seen-in Region.worktree e) (entries id-width Region.worktree w) (at .worktree))
+    (peek (seen-in Region.common e) (entries id-width Region.common c) (at .common))
+    (peek (seen-in Region.packed e) (entries id-width Region.packed p) (at .packed))
+    at
 
--- the move of a state in the regions w, c, p
-abbrev pub move-in : Bytes → Bytes → Bytes → State → Move
-move-in w c p st =
-    choose (peek (seen-in Region.worktree (st .expansion)) (entries id-width Region.worktree w) (st .at .worktree))
-    (peek (seen-in Region.common (st .expansion)) (entries id-width Region.common c) (st .at .common))
-    (peek (seen-in Region.packed (st .expansion)) (entries id-width Region.packed p) (st .at .packed))
-    (st .at)
+abbrev pub MoveIn : Bytes → Bytes → Bytes → Bytes → positions.Positions → move.Move → Type 0
+MoveIn e w c p at m = move-of e w c p m ≡ move-in e w c p (positions-of at)
+
+-- a step stays: it was turned away, or the listing is ended
+abbrev pub stays : Sizes → Bool → Bool
+stays sizes.Right ended = ended
+stays sizes.NotWhole ended = true
+stays sizes.TooMany ended = true
+
+-- the move of a step, where it goes on by m
+abbrev pub step-move : Bool → Positions → Move → Move
+step-move stay at m = if stay then record { answer = nothing; next = at } else m
+
+abbrev pub StepMove : Sizes → Bool → Bytes → Bytes → Bytes → Bytes → positions.Positions → move.Move → Type 0
+StepMove z ended e w c p at m = move-of e w c p m ≡ step-move (stays z ended) (positions-of at) (move-in e w c p (positions-of at))
+
+-- 1 or 2, or the answer
+abbrev pub answer-after : Sizes → Answer → Answer
+answer-after sizes.Right a = a
+answer-after sizes.NotWhole a = refused 1
+answer-after sizes.TooMany a = refused 2
+
+-- whether the listing is ended after it
+abbrev pub ended-after : Sizes → Bool → Answer → Bool
+ended-after sizes.Right ended a = is-nothing a
+ended-after sizes.NotWhole ended a = ended
+ended-after sizes.TooMany ended a = ended
+
+-- the same of an outcome, whatever the reference
+abbrev pub ListedAfter : Sizes → Outcome → Listed → Type 0
+ListedAfter z o l = (r : Reference) → listed-with l r ≡ answer-after z (answer-with o r)
+
+abbrev pub EndedAfter : Sizes → Bool → Outcome → Bool → Type 0
+EndedAfter z ended o b = (r : Reference) → b ≡ ended-after z ended (answer-with o r)

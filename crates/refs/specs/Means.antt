@@ -1,5 +1,6 @@
 -- What the code's types mean: for each answer the paper's number and values.
 use mathlib.Core.Path.{_≡_}
+use mathlib.Core.Bool.{Bool, true, false}
 use mathlib.Core.Option.{none, some}
 use Prim.Native.Nat.{ℕ}
 use Rattle.names.specs.Bytes.{Bytes, if_then_else_}
@@ -73,6 +74,14 @@ abbrev pub answered : Answered → Answer
 answered a = answer-with (a .outcome) (reference-of (a .reference))
 
 -- ---- calls
+
+-- the call goes on
+abbrev pub passed : Gate → Bool
+passed gate.Passed = true
+passed gate.NotWhole = false
+passed gate.TooMany = false
+passed (gate.Refused why) = false
+passed (gate.Unfit why r i) = false
 
 -- an answer where the call passed, else 1 to 5, or 6 to 8 with region and block
 abbrev pub gated : {A : Type 0} → Gate → A → Result A

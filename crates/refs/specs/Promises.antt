@@ -8,31 +8,40 @@ use Prim.Native.Nat.{ℕ, _<_}
 use lib.Dec.{eqb}
 use lib.ListN.{take, drop}
 use Rattle.names.specs.Bytes.{Bytes, bytes, if_then_else_}
-use Rattle.names.specs.Means.{content, made-name, if-fits, number}
+use Rattle.names.specs.Means.{held, content, filled, if-fits, number}
+use Rattle.names.specs.declared.name.Filled.{Filled}
+use Rattle.names.specs.declared.name.Filled.the-variants as fill
 use Rattle.names.specs.Route.{Base, own, shared, packed-name}
 use Rattle.names.specs.Candidates.{Candidate, pass, last-candidate}
 use Rattle.names.specs.Check.{Check, Checked, checked}
-use Rattle.names.specs.declared.name.Made.{Made}
 use Rattle.blocks.specs.Block.{Region}
 use Rattle.blocks.specs.Entry.{Entry, entries}
 use Rattle.blocks.specs.Fitness.{first-flaw}
-use Rattle.blocks.specs.Means.{id-width, block-count, first, name-in, content-in, entry-in, as-entry}
+use Rattle.blocks.specs.Content.{object}
+use Rattle.blocks.specs.Means.{id-width, block-count, first, name-in, content-in, entry-in, as-entry, id-in, target-name-in}
 use Rattle.blocks.specs.Snapshot.{Snapshot, Store, store}
 use Rattle.blocks.specs.declared.block.EntryKind.{EntryKind}
-use Rattle.refs.specs.Answer.{Reference, Answer, nothing, found, refused, says, strip-answer, block-of}
+use Rattle.refs.specs.Answer.{Reference, Answer, nothing, found, refused, says, strip-reference, strip-answer, block-of}
 use Rattle.refs.specs.Search.{clashes, record-of, entry-for, answer-of, lookup, first-answer, search}
 use Rattle.refs.specs.Follow.{Followed, on-target, on-answer, max-ref-depth, follow-from, following}
-use Rattle.refs.specs.Means.{answer-with, answered, followed-of, reference-of}
-use Rattle.refs.specs.declared.raw.Answered.{Answered}
+use Rattle.refs.specs.Means.{target-of, answer-with, reference-of}
+use Rattle.refs.specs.declared.raw.Reference as code
+use Rattle.refs.specs.declared.raw.Kind.{Kind}
+use Rattle.refs.specs.declared.raw.Kind.the-variants.{Object, Symbolic}
+use Rattle.refs.specs.declared.raw.Said.{Said}
 use Rattle.refs.specs.declared.raw.Outcome.{Outcome}
+use Rattle.refs.specs.declared.raw.Outcome.the-variants as outcome
+use Rattle.refs.specs.declared.raw_ext.Stop.the-variants.{NotFound}
+use Rattle.refs.specs.declared.raw_ext.Ending.{Ending}
+use Rattle.refs.specs.declared.raw_ext.Ending.the-variants as ending
 use Rattle.refs.specs.declared.find.Index.{Index}
 use Rattle.refs.specs.declared.find.Index.the-variants.{At, Nothing}
+use Rattle.refs.specs.declared.find.Source.{Source}
+use Rattle.refs.specs.declared.find.Source.the-variants as source
+use Rattle.refs.specs.declared.find.Hit.{Hit}
 use Rattle.refs.specs.declared.check.NamesGate.{NamesGate}
 use Rattle.refs.specs.declared.check.CheckedNames.{CheckedNames}
-use Rattle.refs.specs.declared.check.Gate.{Gate}
-use Rattle.refs.specs.declared.raw_ext.Turn.{Turn}
 use Rattle.refs.specs.declared.check.NamesGate.the-variants as names
-use Rattle.refs.specs.declared.check.Gate.the-variants as gate
 
 -- ---- answers
 
@@ -80,13 +89,31 @@ pub record BlockIs (r : Region) (s : Bytes) (k : ℕ) (kind : EntryKind) (name c
   pub content-is : content ≡ content-in s k
   pub entry-is : as-entry id-width kind (name-in s k) (content-in s k) ≡ entry-in id-width r s k
 
--- the answer is that of the entry under the name n, whatever block it is
-abbrev pub EntryAnswer : EntryKind → Bytes → Bytes → Bytes → Answered → Type 0
-EntryAnswer kind n name content a = (r : Region) (s : Bytes) (k : ℕ) → BlockIs r s k kind name content → answered a ≡ says-at n (entry-in id-width r s k)
+-- the reference of a packed record with the content c
+abbrev pub packed-reference : Bool → Bytes → Bytes → Reference
+packed-reference peeled m c = record { name = m; target = object (id-in id-width c); peeled = if peeled then some (id-in id-width (drop id-width c)) else none }
 
--- the answer is that of block k, stripped of e, under the name n where the file is loose, if the region has no flaw
-abbrev pub BlockAnswer : Bytes → Bytes → Bytes → ℕ → Answered → Type 0
-BlockAnswer e n s k a = (r : Region) → Flawless r s → answered a ≡ strip-answer e (says-at n (entry-in id-width r s k))
+-- the reference of a block with the name m and the content c: a packed record's under its own name, else under n
+abbrev pub said-reference : Said → Bytes → Bytes → Bytes → Reference
+said-reference s n m c =
+    record {
+      name = if s .«from_packed» then m else n;
+      target = target-of (s .kind) (id-in id-width c) (target-name-in c);
+      peeled = if s .«has_peeled» then some (id-in id-width (drop id-width c)) else none;
+    }
+
+-- its answer
+abbrev pub said-answer : Said → Bytes → Bytes → Bytes → Answer
+said-answer s n m c = answer-with (s .outcome) (said-reference s n m c)
+
+-- that is the answer of the entry, whatever block it is
+abbrev pub SaidBy : EntryKind → Bytes → Said → Type 0
+SaidBy kind c s = (n m : Bytes) (r : Region) (t : Bytes) (k : ℕ) → BlockIs r t k kind m c → said-answer s n m c ≡ says-at n (entry-in id-width r t k)
+
+-- t is the name of a symbolic target in the content c
+abbrev pub TargetPart : Kind → Bytes → Bytes → Type 0
+TargetPart Object c t = Unit {0}
+TargetPart Symbolic c t = t ≡ target-name-in c
 
 -- the answer is that of block k of the packed region p, under some name
 pub record AnswerAt (e p : Bytes) (k : ℕ) (a : Answer) : Type 0 where
@@ -99,14 +126,58 @@ IndexAnswer e p (At k) a = AnswerAt e p k a
 IndexAnswer e p Nothing a = a ≡ nothing
 
 -- the index is that of the record of the candidate c: its answer is the candidate's
-abbrev pub PackedIndex : Bytes → Bytes → Bool → Bytes → Index → Type 0
-PackedIndex e c seek p i =
-    (s : Store) → s .packed ≡ entries id-width Region.packed p → (a : Answer) → IndexAnswer e p i a → a ≡ answer-of id-width e c (record-of e s seek (packed-name c))
+pub record PackedIndex (e c : Bytes) (seek : Bool) (p : Bytes) (i : Index) : Type 0 where
+  pub is : (s : Store) → s .packed ≡ entries id-width Region.packed p → (a : Answer) → IndexAnswer e p i a → a ≡ answer-of id-width e c (record-of e s seek (packed-name c))
+  pub inside : InRange i (block-count p)
 
 -- search reads the common region: a shared name, where there is one
 abbrev pub in-common : Base → Bool → Bool
 in-common own has = false
 in-common shared has = has
+
+-- which loose region it is
+abbrev pub kind-read : Bool → Region
+kind-read true = Region.common
+kind-read false = Region.worktree
+
+-- ---- the block that a candidate finds
+
+-- its region; an empty one where none is found
+abbrev pub source-region : Source → Region
+source-region source.Nothing = Region.worktree
+source-region (source.Loose b k) = kind-read b
+source-region (source.Packed k) = Region.packed
+
+abbrev pub source-bytes : Bytes → Bytes → Bytes → Source → Bytes
+source-bytes w c p source.Nothing = []
+source-bytes w c p (source.Loose b k) = if b then c else w
+source-bytes w c p (source.Packed k) = p
+
+-- its number there
+abbrev pub source-at : Source → ℕ
+source-at source.Nothing = 0
+source-at (source.Loose b k) = k
+source-at (source.Packed k) = k
+
+-- its name, content and entry
+abbrev pub source-name : Bytes → Bytes → Bytes → Source → Bytes
+source-name w c p o = name-in (source-bytes w c p o) (source-at o)
+
+abbrev pub source-content : Bytes → Bytes → Bytes → Source → Bytes
+source-content w c p o = content-in (source-bytes w c p o) (source-at o)
+
+abbrev pub source-entry : Bytes → Bytes → Bytes → Source → Option Entry
+source-entry w c p o = entry-in id-width (source-region o) (source-bytes w c p o) (source-at o)
+
+-- one is found
+abbrev pub is-source : Source → Bool
+is-source source.Nothing = false
+is-source (source.Loose b k) = true
+is-source (source.Packed k) = true
+
+-- its region has no flaw
+abbrev pub FlawlessSource : Bytes → Bytes → Bytes → Source → Type 0
+FlawlessSource w c p o = Flawless (source-region o) (source-bytes w c p o)
 
 -- a candidate, and whether it is sought packed
 abbrev pub candidate : Bytes → Bool → Candidate
@@ -141,14 +212,6 @@ between d = if eqb d 1 then bytes "tags/" else if eqb d 2 then bytes "heads/" el
 abbrev pub pass-names : Bool → Bool → Bytes → List Bytes
 pass-names pseudo one x = if one then take 1 (pass pseudo x) else pass pseudo x
 
--- a pass answers so, before the rest
-abbrev pub PassAnswer : Bytes → Snapshot → List Bytes → Answered → Type 0
-PassAnswer e s l a = (rest : Answer) → first-of e s l rest ≡ or-answer (answered a) rest
-
--- the answer is that of the candidate n, if the name was made of it
-abbrev pub MadeAnswer : Bytes → Snapshot → Made → Bool → Answered → Type 0
-MadeAnswer e s m seek a = (n : Bytes) → made-name m ≡ if-fits n → answered a ≡ looked-up e s n seek
-
 -- what the last candidate answers
 abbrev pub last-answer : Bytes → Snapshot → Bytes → Answer
 last-answer e s x = first-answer id-width e (store id-width s) (last-candidate x) .answer
@@ -159,13 +222,46 @@ is-answer nothing = false
 is-answer (found r) = true
 is-answer (refused k) = true
 
--- b is whether the outcome is an answer, whatever the reference
-abbrev pub Answers : Outcome → Bool → Type 0
-Answers o b = (r : Reference) → b ≡ is-answer (answer-with o r)
+-- a is what the source answers under the name n, and there is an answer just where there is a source
+pub record SourceOf (e w c p n : Bytes) (o : Source) (a : Answer) : Type 0 where
+  pub answer : strip-answer e (says-at n (source-entry w c p o)) ≡ a
+  pub there : is-answer a ≡ is-source o
+  pub fit : FlawlessSource w c p o
+
+-- how many bytes were put
+abbrev pub filled-len : Filled → ℕ
+filled-len (fill.To k) = k
+filled-len fill.TooLong = 0
+
+-- the source is that of the candidate n that was put into b, if it was
+abbrev pub FilledSource : Bytes → Bytes → Bytes → Bytes → Snapshot → Bytes → Filled → Bool → Source → Type 0
+FilledSource e w c p s b f seek o = (n : Bytes) → filled b f ≡ if-fits n → SourceOf e w c p (held b (filled-len f)) o (looked-up e s n seek)
+
+-- the same of a hit, under the candidate's name
+abbrev pub HitOf : Bytes → Bytes → Bytes → Bytes → Hit → Answer → Type 0
+HitOf e w c p h a = SourceOf e w c p (content (h .name)) (h .source) a
+
+-- a pass over the names l gives the hit h, before the rest
+pub record PassHit (e w c p : Bytes) (s : Snapshot) (l : List Bytes) (h : Hit) : Type 0 where
+  pub answer : Answer
+  pub first : (rest : Answer) → first-of e s l rest ≡ or-answer answer rest
+  pub hit : HitOf e w c p h answer
 
 -- what a search answers
 abbrev pub search-answer : Bytes → Snapshot → Bytes → Answer
 search-answer e s x = search id-width e (store id-width s) x .answer
+
+-- ---- the answer of a hit
+
+-- what the source says under any name
+abbrev pub SourceSaid : Bytes → Bytes → Bytes → Source → Said → Type 0
+SourceSaid w c p o s = (n : Bytes) → said-answer s n (source-name w c p o) (source-content w c p o) ≡ says-at n (source-entry w c p o)
+
+-- the reference that it says of the hit, stripped
+abbrev pub HitReference : Bytes → Bytes → Bytes → Bytes → Hit → Said → code.Reference → Type 0
+HitReference e w c p h s r = reference-of r ≡ strip-reference e (said-reference s (content (h .name)) (source-name w c p (h .source)) (source-content w c p (h .source)))
+
+-- ---- the checks
 
 -- nothing, or 3 to 5
 abbrev pub names-gate : NamesGate → Check
@@ -176,27 +272,28 @@ names-gate (names.Refused why) = some (number why)
 abbrev pub names-checked : CheckedNames → Checked Bytes
 names-checked r = checked (names-gate (r .gate)) (content (r .expansion))
 
--- the call goes on
-abbrev pub passed : Gate → Bool
-passed gate.Passed = true
-passed gate.NotWhole = false
-passed gate.TooMany = false
-passed (gate.Refused why) = false
-passed (gate.Unfit why r i) = false
+-- ---- following
 
--- ---- one turn
+abbrev pub is-object : Kind → Bool
+is-object Object = true
+is-object Symbolic = false
 
--- where following ends, or what the next reference leads to
-abbrev pub turn-of : (Reference → Followed) → Turn → Followed
-turn-of go t = if t .go then go (reference-of (t .reference)) else followed-of (t .ending) (t .reference)
+abbrev pub is-found : Outcome → Bool
+is-found outcome.Nothing = false
+is-found outcome.Found = true
+is-found (outcome.Refused why) = false
 
--- the turn is that of the answer a for r's target, wherever the next reference leads
-abbrev pub AnswerTurn : List Bytes → Reference → Answer → Turn → Type 0
-AnswerTurn seen r a t = (go : Reference → Followed) → turn-of go t ≡ on-answer seen r a go
+-- how following ends where a target is not found, or refused
+abbrev pub ending-of : Outcome → Ending
+ending-of outcome.Nothing = ending.Stopped NotFound
+ending-of outcome.Found = ending.Reached
+ending-of (outcome.Refused why) = ending.Refused why
 
--- the turn is that of r
-abbrev pub TurnOf : Bytes → Snapshot → List Bytes → Reference → Turn → Type 0
-TurnOf e s seen r t = (go : Reference → Followed) → turn-of go t ≡ on-target r (r .target) (λ x. on-answer seen r (search-answer e s x) go)
+-- and where the name itself is
+abbrev pub start-of : Outcome → Ending
+start-of outcome.Nothing = ending.NotThere
+start-of outcome.Found = ending.Reached
+start-of (outcome.Refused why) = ending.Refused why
 
 -- following from r, and from a name
 abbrev pub followed-from : Bytes → Snapshot → Reference → Followed

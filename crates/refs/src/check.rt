@@ -22,8 +22,8 @@ ghost use Rattle.names.specs.Means.{content, number};
 ghost use Rattle.blocks.specs.Snapshot.{store, store-flaw};
 ghost use Rattle.blocks.specs.Means.{id-width, if-there, snapshot-of};
 ghost use Rattle.refs.specs.Search.{after-checks, call-check};
-ghost use Rattle.refs.specs.Promises.{names-checked, names-gate, passed};
-ghost use Rattle.refs.specs.Means.{gated};
+ghost use Rattle.refs.specs.Promises.{names-checked, names-gate};
+ghost use Rattle.refs.specs.Means.{passed, gated};
 
 // Why names are refused, or not: 3, 4 and 5.
 pub enum NamesGate {

@@ -5,21 +5,24 @@ ghost use mathlib.Core.Bool.{true};
 ghost use lib.ListN.{drop};
 ghost use Rattle.names.specs.Bytes.{if_then_else_};
 ghost use Rattle.names.specs.Candidates.{full-name};
-ghost use Rattle.names.specs.Means.{content, made-name, if-fits, base-of};
-ghost use Rattle.blocks.specs.Means.{id-width, content-in, if-there, snapshot-of};
+ghost use Rattle.names.specs.Bytes.{Bytes};
+ghost use Rattle.names.specs.Means.{filled, if-fits, base-of};
+ghost use Rattle.blocks.specs.Means.{id-width, if-there, snapshot-of};
 ghost use Rattle.blocks.specs.Block.{Region};
 ghost use Rattle.refs.specs.Search.{find};
 ghost use Rattle.refs.specs.Means.{gated, answer-only, answered};
-ghost use Rattle.refs.specs.Promises.{Flawless, FitRegions, IndexOf, ClashOf, BlockAnswer, PackedIndex, in-common, candidate-answer, between, Answers, MadeAnswer, looked-up, pass-names, PassAnswer, last-answer, search-answer};
+ghost use Rattle.refs.specs.Answer.{nothing};
+ghost use Rattle.refs.specs.Promises.{Flawless, FitRegions, IndexOf, ClashOf, PackedIndex, in-common, candidate-answer, between, is-source, source-bytes, source-at, source-content, FlawlessSource, SourceOf, FilledSource, filled-len, HitOf, looked-up, pass-names, PassHit, last-answer, search-answer, SourceSaid, HitReference};
 use crate::check::Gate;
 use crate::check::check_call;
 use crate::check::is_passed;
 use crate::raw::Answered;
 use crate::raw::Outcome;
-use crate::raw::entry_answer;
-use crate::raw::name_at;
-use crate::raw::not_found;
-use crate::raw::strip_answer;
+use crate::raw::Reference;
+use crate::raw::Said;
+use crate::raw::no_reference;
+use crate::raw::reference_with;
+use crate::raw::says;
 use blocks::block::BLOCK_SIZE;
 use blocks::block::block_content;
 use blocks::block::block_name;
@@ -33,9 +36,12 @@ use names::find::Base;
 use names::find::Packed;
 use names::find::to_base_dir_and_relative_name;
 use names::find::transform_full_name_for_lookup;
-use names::name::Made;
+use names::name::Filled;
+use names::name::LONGEST;
 use names::name::Name;
 use names::name::construct_full_name_ref;
+use names::name::empty;
+use names::name::front;
 use names::name::is_pseudo_ref;
 use names::name::lend;
 use names::name::remote_head_candidate;
@@ -89,16 +95,6 @@ fn tail(s: &[u8], off: usize) -> &[u8]
     &s[0..0]
 }
 
-// The answer of block k of a region fit for search, stripped: a loose file's under the name n. Its content is lent beside it.
-fn block_answer(s: &[u8], k: usize, n: Name, file: &[u8], e: &[u8]) -> Answered
-    requires { ⌜ now file ≡ content-in (now s) k ⌝ }
-    ensures { λ a. ⌜ BlockAnswer (now (e .entry)) (content n) (now (s .entry)) k a ⌝ }
-{
-    let kind = sound_kind(s, k);
-    let own = name_at(s, k);
-    strip_answer(entry_answer(kind, n, own, file), e)
-}
-
 // The packed record of a candidate s, where it is sought packed.
 fn packed_index(packed: &[u8], e: &[u8], s: &[u8], seek: bool) -> Index
     requires { ⌜ Flawless Region.packed (now packed) ⌝ }
@@ -134,22 +130,39 @@ fn loose_region<'a>(worktree: &'a [u8], common: &'a [u8], in_common: bool) -> &'
     worktree
 }
 
-// What a candidate answers in regions fit for search.
+// The block that a candidate finds, of a loose region or of packed.
+pub enum Source {
+    Nothing,
+    Loose { in_common: bool, at: usize },
+    Packed { at: usize },
+}
+
+fn is_source(source: Source) -> bool
+    ensures { λ r. ⌜ r ≡ is-source source ⌝ }
+{
+    match source {
+        Source::Nothing => false,
+        Source::Loose {
+            in_common: _,
+            at: _,
+        } => true,
+        Source::Packed { at: _ } => true,
+    }
+}
+
+// The block that the candidate s finds in regions fit for search.
 fn lookup<'a>(
     worktree: &'a [u8],
     common: &'a [u8],
     has_common: bool,
     packed: &[u8],
     e: &[u8],
-    c: Name,
+    s: &[u8],
     seek: bool,
-) -> Answered
+) -> Source
     requires { ⌜ FitRegions (snapshot-of (now worktree) (if-there «has_common» (now common)) (now packed)) ⌝ }
-    ensures { λ a. ⌜ answered a ≡ candidate-answer (now (e .entry)) (snapshot-of (now (worktree .entry)) (if-there «has_common» (now (common .entry))) (now (packed .entry))) (content c) seek ⌝ }
+    ensures { λ o. ⌜ SourceOf (now (e .entry)) (now (worktree .entry)) (now (common .entry)) (now (packed .entry)) (now (s .entry)) o (candidate-answer (now (e .entry)) (snapshot-of (now (worktree .entry)) (if-there «has_common» (now (common .entry))) (now (packed .entry))) (now (s .entry)) seek) ⌝ }
 {
-    let b = c.bytes;
-    let len = c.len;
-    let s = lend(&b, len);
     let place = to_base_dir_and_relative_name(s);
     let base = place.base;
     let off = place.off;
@@ -157,69 +170,79 @@ fn lookup<'a>(
     let region = loose_region(worktree, common, in_common);
     let path = tail(s, off);
     if has_clash(region, e, path) {
-        return not_found();
+        return Source::Nothing;
     }
     let i = block_of(region, e, path);
     match i {
-        Index::At(k) => block_answer(region, k, c, content_of(worktree, common, in_common, k), e),
+        Index::At(k) => Source::Loose { in_common, at: k },
         Index::Nothing => {
             let j = packed_index(packed, e, s, seek);
             match j {
-                Index::At(k) => {
-                    let own = name_at(packed, k);
-                    block_answer(packed, k, own, block_content(packed, k), e)
-                }
-                Index::Nothing => not_found(),
+                Index::At(k) => Source::Packed { at: k },
+                Index::Nothing => Source::Nothing,
             }
         }
     }
 }
 
-// What the candidate that was made answers: nothing, where it did not fit.
-fn made_answer<'a>(
+// The same for a candidate that was put into b: nothing, where it did not fit.
+fn lookup_filled<'a>(
     worktree: &'a [u8],
     common: &'a [u8],
     has_common: bool,
     packed: &[u8],
     e: &[u8],
-    m: Made,
+    b: &[u8; LONGEST],
+    f: Filled,
     seek: bool,
-) -> Answered
+) -> Source
     requires { ⌜ FitRegions (snapshot-of (now worktree) (if-there «has_common» (now common)) (now packed)) ⌝ }
-    ensures { λ a. ⌜ MadeAnswer (now (e .entry)) (snapshot-of (now (worktree .entry)) (if-there «has_common» (now (common .entry))) (now (packed .entry))) m seek a ⌝ }
+    ensures { λ o. ⌜ FilledSource (now (e .entry)) (now (worktree .entry)) (now (common .entry)) (now (packed .entry)) (snapshot-of (now (worktree .entry)) (if-there «has_common» (now (common .entry))) (now (packed .entry))) (now (b .entry)) f seek o ⌝ }
 {
-    let ok = m.ok;
-    if !ok {
-        return not_found();
+    match f {
+        Filled::To(len) => lookup(worktree, common, has_common, packed, e, front(b, len), seek),
+        Filled::TooLong => Source::Nothing,
     }
-    let c = m.name;
-    lookup(worktree, common, has_common, packed, e, c, seek)
 }
 
-// The candidate for x with directory d in between.
-fn candidate_for(x: &[u8], d: usize, pseudo: bool) -> Made
-    ensures { λ m. ⌜ made-name m ≡ if-fits (full-name pseudo (between d) (now (x .entry))) ⌝ }
+fn filled_len(f: Filled) -> usize
+    ensures { λ r. ⌜ r ≡ filled-len f ⌝ }
+{
+    match f {
+        Filled::To(len) => len,
+        Filled::TooLong => 0,
+    }
+}
+
+// A candidate and the block that it finds. An answer is too large to be handed on, so it is made of these, once, at the end.
+pub struct Hit {
+    pub source: Source,
+    pub name: Name,
+}
+
+fn no_hit() -> Hit
+    ensures { λ h. ⌜ ((e w c p : Bytes) → HitOf e w c p h nothing) ⌝ }
+{
+    let name = empty();
+    Hit {
+        source: Source::Nothing,
+        name,
+    }
+}
+
+// Puts the candidate for x with directory d in between.
+fn put_candidate(out: &mut [u8; LONGEST], x: &[u8], d: usize, pseudo: bool) -> Filled
+    ensures { λ f. ⌜ filled (now (out .exit)) f ≡ if-fits (full-name pseudo (between d) (now (x .entry))) ⌝ }
 {
     match d {
-        1 => construct_full_name_ref(x, b"tags/", pseudo),
-        2 => construct_full_name_ref(x, b"heads/", pseudo),
-        3 => construct_full_name_ref(x, b"remotes/", pseudo),
-        _ => construct_full_name_ref(x, b"", pseudo),
+        1 => construct_full_name_ref(out, x, b"tags/", pseudo),
+        2 => construct_full_name_ref(out, x, b"heads/", pseudo),
+        3 => construct_full_name_ref(out, x, b"remotes/", pseudo),
+        _ => construct_full_name_ref(out, x, b"", pseudo),
     }
 }
 
-// Whether there is an answer.
-fn has_answer(outcome: Outcome) -> bool
-    ensures { λ r. ⌜ Answers outcome r ⌝ }
-{
-    match outcome {
-        Outcome::Nothing => false,
-        Outcome::Found => true,
-        Outcome::Refused(_) => true,
-    }
-}
-
-// What directory d of a pass answers.
+// What directory d of a pass finds.
 fn try_directory<'a>(
     worktree: &'a [u8],
     common: &'a [u8],
@@ -229,12 +252,25 @@ fn try_directory<'a>(
     x: &[u8],
     d: usize,
     pseudo: bool,
-) -> Answered
+) -> Hit
     requires { ⌜ FitRegions (snapshot-of (now worktree) (if-there «has_common» (now common)) (now packed)) ⌝ }
-    ensures { λ a. ⌜ answered a ≡ looked-up (now (e .entry)) (snapshot-of (now (worktree .entry)) (if-there «has_common» (now (common .entry))) (now (packed .entry))) (full-name pseudo (between d) (now (x .entry))) true ⌝ }
+    ensures { λ h. ⌜ HitOf (now (e .entry)) (now (worktree .entry)) (now (common .entry)) (now (packed .entry)) h (looked-up (now (e .entry)) (snapshot-of (now (worktree .entry)) (if-there «has_common» (now (common .entry))) (now (packed .entry))) (full-name pseudo (between d) (now (x .entry))) true) ⌝ }
 {
-    let m = candidate_for(x, d, pseudo);
-    made_answer(worktree, common, has_common, packed, e, m, true)
+    let mut name = empty();
+    let f = put_candidate(&mut name.bytes, x, d, pseudo);
+    let len = filled_len(f);
+    name.len = len;
+    let source = lookup_filled(
+        worktree,
+        common,
+        has_common,
+        packed,
+        e,
+        &name.bytes,
+        f,
+        true,
+    );
+    Hit { source, name }
 }
 
 // One pass over the four directories; left early after the first, where only that counts.
@@ -247,26 +283,26 @@ fn one_pass<'a>(
     x: &[u8],
     pseudo: bool,
     one: bool,
-) -> Answered
+) -> Hit
     requires { ⌜ FitRegions (snapshot-of (now worktree) (if-there «has_common» (now common)) (now packed)) ⌝ }
-    ensures { λ a. ⌜ PassAnswer (now (e .entry)) (snapshot-of (now (worktree .entry)) (if-there «has_common» (now (common .entry))) (now (packed .entry))) (pass-names pseudo one (now (x .entry))) a ⌝ }
+    ensures { λ h. ⌜ PassHit (now (e .entry)) (now (worktree .entry)) (now (common .entry)) (now (packed .entry)) (snapshot-of (now (worktree .entry)) (if-there «has_common» (now (common .entry))) (now (packed .entry))) (pass-names pseudo one (now (x .entry))) h ⌝ }
 {
     let mut d: usize = 0;
     'try_directories: while d < 4 {
-        let a = try_directory(worktree, common, has_common, packed, e, x, d, pseudo);
-        let outcome = a.outcome;
-        if has_answer(outcome) {
-            return a;
+        let h = try_directory(worktree, common, has_common, packed, e, x, d, pseudo);
+        let source = h.source;
+        if is_source(source) {
+            return h;
         }
         if one {
             break 'try_directories;
         }
         d += 1;
     }
-    not_found()
+    no_hit()
 }
 
-// What the last candidate answers, x/HEAD below remotes: there is none for HEAD, and it is never sought packed.
+// What the last candidate finds, x/HEAD below remotes: there is none for HEAD, and it is never sought packed.
 fn try_remote_head<'a>(
     worktree: &'a [u8],
     common: &'a [u8],
@@ -274,15 +310,28 @@ fn try_remote_head<'a>(
     packed: &[u8],
     e: &[u8],
     x: &[u8],
-) -> Answered
+) -> Hit
     requires { ⌜ FitRegions (snapshot-of (now worktree) (if-there «has_common» (now common)) (now packed)) ⌝ }
-    ensures { λ a. ⌜ answered a ≡ last-answer (now (e .entry)) (snapshot-of (now (worktree .entry)) (if-there «has_common» (now (common .entry))) (now (packed .entry))) (now (x .entry)) ⌝ }
+    ensures { λ h. ⌜ HitOf (now (e .entry)) (now (worktree .entry)) (now (common .entry)) (now (packed .entry)) h (last-answer (now (e .entry)) (snapshot-of (now (worktree .entry)) (if-there «has_common» (now (common .entry))) (now (packed .entry))) (now (x .entry))) ⌝ }
 {
     if equal(x, b"HEAD") {
-        return not_found();
+        return no_hit();
     }
-    let m = remote_head_candidate(x);
-    made_answer(worktree, common, has_common, packed, e, m, false)
+    let mut name = empty();
+    let f = remote_head_candidate(&mut name.bytes, x);
+    let len = filled_len(f);
+    name.len = len;
+    let source = lookup_filled(
+        worktree,
+        common,
+        has_common,
+        packed,
+        e,
+        &name.bytes,
+        f,
+        false,
+    );
+    Hit { source, name }
 }
 
 // Search for the partial name x, unchecked, in regions fit for search. A second pass begins only when the first was left
@@ -294,25 +343,101 @@ pub(crate) fn find_one_with_verified_input<'a>(
     packed: &[u8],
     e: &[u8],
     x: &[u8],
-) -> Answered
+) -> Hit
     requires { ⌜ FitRegions (snapshot-of (now worktree) (if-there «has_common» (now common)) (now packed)) ⌝ }
-    ensures { λ a. ⌜ answered a ≡ search-answer (now (e .entry)) (snapshot-of (now (worktree .entry)) (if-there «has_common» (now (common .entry))) (now (packed .entry))) (now (x .entry)) ⌝ }
+    ensures { λ h. ⌜ HitOf (now (e .entry)) (now (worktree .entry)) (now (common .entry)) (now (packed .entry)) h (search-answer (now (e .entry)) (snapshot-of (now (worktree .entry)) (if-there «has_common» (now (common .entry))) (now (packed .entry))) (now (x .entry))) ⌝ }
 {
     let pseudo = is_pseudo_ref(x);
     let a = one_pass(worktree, common, has_common, packed, e, x, true, pseudo);
-    let first = a.outcome;
-    if has_answer(first) {
+    let first = a.source;
+    if is_source(first) {
         return a;
     }
     if !pseudo {
         return try_remote_head(worktree, common, has_common, packed, e, x);
     }
     let b = one_pass(worktree, common, has_common, packed, e, x, false, false);
-    let second = b.outcome;
-    if has_answer(second) {
+    let second = b.source;
+    if is_source(second) {
         return b;
     }
     try_remote_head(worktree, common, has_common, packed, e, x)
+}
+
+// The region of a source: an empty one, where none is found.
+fn region_in<'a>(worktree: &'a [u8], common: &'a [u8], packed: &'a [u8], source: Source) -> &'a [u8]
+    ensures { λ r. ⌜ now r ≡ source-bytes (now (worktree .entry)) (now (common .entry)) (now (packed .entry)) source ⌝ }
+{
+    match source {
+        Source::Nothing => &packed[0..0],
+        Source::Loose { in_common, at: _ } => loose_region(worktree, common, in_common),
+        Source::Packed { at: _ } => packed,
+    }
+}
+
+// The number of its block there.
+fn block_in(source: Source) -> usize
+    ensures { λ k. ⌜ k ≡ source-at source ⌝ }
+{
+    match source {
+        Source::Nothing => 0,
+        Source::Loose { in_common: _, at } => at,
+        Source::Packed { at } => at,
+    }
+}
+
+// Its content, a part of the region.
+fn content_in<'a>(
+    worktree: &'a [u8],
+    common: &'a [u8],
+    packed: &'a [u8],
+    source: Source,
+) -> &'a [u8]
+    ensures { λ r. ⌜ now r ≡ source-content (now (worktree .entry)) (now (common .entry)) (now (packed .entry)) source ⌝ }
+{
+    match source {
+        Source::Nothing => &packed[0..0],
+        Source::Loose { in_common, at } => content_of(worktree, common, in_common, at),
+        Source::Packed { at } => block_content(packed, at),
+    }
+}
+
+// What the block of a source in a region fit for search says.
+pub(crate) fn said_of<'a>(
+    worktree: &'a [u8],
+    common: &'a [u8],
+    packed: &'a [u8],
+    source: Source,
+) -> Said
+    requires { ⌜ FlawlessSource (now worktree) (now common) (now packed) source ⌝ }
+    ensures { λ s. ⌜ SourceSaid (now (worktree .entry)) (now (common .entry)) (now (packed .entry)) source s ⌝ }
+{
+    let kind = sound_kind(
+        region_in(worktree, common, packed, source),
+        block_in(source),
+    );
+    says(kind, content_in(worktree, common, packed, source))
+}
+
+// The reference that it says.
+pub(crate) fn reference_of<'a>(
+    worktree: &'a [u8],
+    common: &'a [u8],
+    packed: &'a [u8],
+    e: &[u8],
+    h: Hit,
+    said: Said,
+) -> Reference
+    ensures { λ r. ⌜ HitReference (now (e .entry)) (now (worktree .entry)) (now (common .entry)) (now (packed .entry)) h said r ⌝ }
+{
+    let source = h.source;
+    let own = block_name(
+        region_in(worktree, common, packed, source),
+        block_in(source),
+    );
+    let file = content_in(worktree, common, packed, source);
+    let len = h.name.len;
+    reference_with(said, lend(&h.name.bytes, len), own, file, e)
 }
 
 // What a search gives: the answer counts where the call passed its checks.
@@ -326,7 +451,7 @@ pub fn find<'a>(
     worktree: &'a [u8],
     common: &'a [u8],
     has_common: bool,
-    packed: &[u8],
+    packed: &'a [u8],
     name: &[u8],
     namespace: &[u8],
     has_namespace: bool,
@@ -344,19 +469,38 @@ pub fn find<'a>(
     );
     let gate = call.gate;
     if !is_passed(gate) {
-        let answer = not_found();
+        let answer = no_answer();
         return Found { gate, answer };
     }
-    let expansion = call.expansion;
-    let b = expansion.bytes;
-    let len = expansion.len;
-    let answer = find_one_with_verified_input(
+    let len = call.expansion.len;
+    let h = find_one_with_verified_input(
         worktree,
         common,
         has_common,
         packed,
-        lend(&b, len),
+        lend(&call.expansion.bytes, len),
         name,
     );
+    let source = h.source;
+    let said = said_of(worktree, common, packed, source);
+    let outcome = said.outcome;
+    let reference = reference_of(
+        worktree,
+        common,
+        packed,
+        lend(&call.expansion.bytes, len),
+        h,
+        said,
+    );
+    let answer = Answered { outcome, reference };
     Found { gate, answer }
+}
+
+// What stands beside a check that turned the call away.
+fn no_answer() -> Answered {
+    let reference = no_reference();
+    Answered {
+        outcome: Outcome::Nothing,
+        reference,
+    }
 }

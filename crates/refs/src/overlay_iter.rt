@@ -12,17 +12,15 @@ ghost use Rattle.blocks.specs.Snapshot.{is-there};
 ghost use Rattle.blocks.specs.Means.{id-width, region-of, block-count, block-at, if-there, snapshot-of};
 ghost use Rattle.refs.specs.View.{scope, worktree-shows, common-shows};
 ghost use Rattle.refs.specs.Listing.{none-left, first-seen, peek};
-ghost use Rattle.refs.specs.Run.{start, open-listing, moved, step};
-ghost use Rattle.refs.specs.Means.{answered, reference-of, state-of, opening-check, opened, listed-with, step-of};
-ghost use Rattle.refs.specs.ListPromises.{shows-in, seen-in, is-error, is-left, waiting-of, is-fault, is-name, part-of, not-above, LeastOf, PastOf, NameMove, ErrorMove, ChosenMove, answer-at, offered, offer-of, positions-of, Lists, Ends, moved-on, move-in};
-use crate::raw::Answered;
+ghost use Rattle.refs.specs.Run.{start, open-listing, step};
+ghost use Rattle.refs.specs.Means.{state-of, opening-check, opened, step-of};
+ghost use Rattle.refs.specs.ListPromises.{shows-in, seen-in, is-error, is-left, waiting-of, is-fault, is-name, part-of, not-above, LeastOf, PastOf, NameMove, ErrorMove, ChosenMove, offer-bytes, offer-at, OfferKind, OfferSaid, OfferReference, Lists, Ends, MoveIn, StepMove, stays, ListedAfter, EndedAfter};
 use crate::raw::Outcome;
 use crate::raw::Reason;
 use crate::raw::Reference;
-use crate::raw::entry_answer;
-use crate::raw::name_at;
-use crate::raw::not_found;
-use crate::raw::strip_answer;
+use crate::raw::Said;
+use crate::raw::reference_with;
+use crate::raw::says;
 use blocks::block::BLOCK_SIZE;
 use blocks::block::EntryKind;
 use blocks::block::Region;
@@ -472,31 +470,65 @@ fn choose<'a>(
     by_name(worktree, common, packed, w, c, p, at)
 }
 
-// The answer of block k of a region under its own name, stripped.
-fn answer_at(s: &[u8], region: Region, k: usize, e: &[u8]) -> Answered
-    ensures { λ a. ⌜ answered a ≡ answer-at (now (e .entry)) (region-of region) (now (s .entry)) k ⌝ }
+// The region of the block that is handed out: an empty one, where none is.
+fn region_in<'a>(worktree: &'a [u8], common: &'a [u8], packed: &'a [u8], given: Offer) -> &'a [u8]
+    ensures { λ r. ⌜ now r ≡ offer-bytes (now (worktree .entry)) (now (common .entry)) (now (packed .entry)) given ⌝ }
 {
-    let kind = entry_kind(s, region, k);
-    let own = name_at(s, k);
-    strip_answer(entry_answer(kind, own, own, block_content(s, k)), e)
+    match given {
+        Offer::Nothing => &packed[0..0],
+        Offer::From { region, at: _ } => part(worktree, common, packed, region),
+    }
 }
 
-// The answer of the block that is handed out.
-fn hand_out<'a>(
+// Its number there.
+fn block_in(given: Offer) -> usize
+    ensures { λ k. ⌜ k ≡ offer-at given ⌝ }
+{
+    match given {
+        Offer::Nothing => 0,
+        Offer::From { region: _, at } => at,
+    }
+}
+
+// What it holds.
+fn kind_in<'a>(worktree: &'a [u8], common: &'a [u8], packed: &'a [u8], given: Offer) -> EntryKind
+    ensures { λ r. ⌜ OfferKind (now (worktree .entry)) (now (common .entry)) (now (packed .entry)) given r ⌝ }
+{
+    match given {
+        Offer::Nothing => EntryKind::End,
+        Offer::From { region, at } => entry_kind(
+            part(worktree, common, packed, region),
+            region,
+            at,
+        ),
+    }
+}
+
+// What it says.
+fn said_of<'a>(worktree: &'a [u8], common: &'a [u8], packed: &'a [u8], given: Offer) -> Said
+    ensures { λ s. ⌜ OfferSaid (now (worktree .entry)) (now (common .entry)) (now (packed .entry)) given s ⌝ }
+{
+    let region = region_in(worktree, common, packed, given);
+    let k = block_in(given);
+    let kind = kind_in(worktree, common, packed, given);
+    says(kind, block_content(region, k))
+}
+
+// The reference that it says, under its own name.
+fn reference_of<'a>(
     worktree: &'a [u8],
     common: &'a [u8],
     packed: &'a [u8],
     given: Offer,
+    said: Said,
     e: &[u8],
-) -> Answered
-    ensures { λ a. ⌜ answered a ≡ offered (offer-of (now (e .entry)) (now (worktree .entry)) (now (common .entry)) (now (packed .entry)) given) ⌝ }
+) -> Reference
+    ensures { λ r. ⌜ OfferReference (now (e .entry)) (now (worktree .entry)) (now (common .entry)) (now (packed .entry)) given said r ⌝ }
 {
-    match given {
-        Offer::Nothing => not_found(),
-        Offer::From { region, at } => {
-            answer_at(part(worktree, common, packed, region), region, at, e)
-        }
-    }
+    let region = region_in(worktree, common, packed, given);
+    let k = block_in(given);
+    let own = block_name(region, k);
+    reference_with(said, own, own, block_content(region, k), e)
 }
 
 // What a step answers: refused 1 or 2, or an entry, refused 6 to 12, or the end.
@@ -537,64 +569,77 @@ fn is_end(outcome: Outcome) -> bool
     }
 }
 
-// The step to new positions.
-fn moved(expansion: Name, at: Positions, a: Answered) -> Stepped
-    ensures { λ s. ⌜ step-of s ≡ moved-on (content expansion) (positions-of at) (answered a) ⌝ }
+// What is handed out in regions of right sizes, and the positions after it.
+fn advance<'a>(
+    worktree: &'a [u8],
+    common: &'a [u8],
+    packed: &'a [u8],
+    e: &[u8],
+    at: Positions,
+) -> Move
+    ensures { λ m. ⌜ MoveIn (now (e .entry)) (now (worktree .entry)) (now (common .entry)) (now (packed .entry)) at m ⌝ }
 {
-    let outcome = a.outcome;
-    let reference = a.reference;
-    let answer = listed_of(outcome);
-    let next = Listing {
-        worktree: at.worktree,
-        common: at.common,
-        packed: at.packed,
-        ended: is_end(outcome),
-        expansion,
-    };
-    Stepped {
-        answer,
-        reference,
-        next,
+    let w = peek(worktree, Region::Worktree, e, at.worktree);
+    let c = peek(common, Region::Common, e, at.common);
+    let p = peek(packed, Region::Packed, e, at.packed);
+    choose(worktree, common, packed, w, c, p, at)
+}
+
+// The same for a step: nothing, and the positions as they were, where it was turned away or is ended.
+fn move_of<'a>(
+    sizes: Sizes,
+    ended: bool,
+    worktree: &'a [u8],
+    common: &'a [u8],
+    packed: &'a [u8],
+    e: &[u8],
+    at: Positions,
+) -> Move
+    ensures { λ m. ⌜ StepMove sizes «ended» (now (e .entry)) (now (worktree .entry)) (now (common .entry)) (now (packed .entry)) at m ⌝ }
+{
+    if stays(sizes, ended) {
+        return Move {
+            given: Offer::Nothing,
+            next: at,
+        };
+    }
+    advance(worktree, common, packed, e, at)
+}
+
+fn stays(sizes: Sizes, ended: bool) -> bool
+    ensures { λ r. ⌜ r ≡ stays sizes ended ⌝ }
+{
+    match sizes {
+        Sizes::Right => ended,
+        Sizes::NotWhole => true,
+        Sizes::TooMany => true,
     }
 }
 
-// A step that leaves the state as it was.
-fn stays(state: Listing, answer: Listed) -> Stepped
-    ensures { λ s. ⌜ step-of s ≡ record { answer = listed-with answer (reference-of (s .reference)); next = state-of state } ⌝ }
+// What a step answers: 1 or 2 before the outcome.
+fn listed_after(sizes: Sizes, outcome: Outcome) -> Listed
+    ensures { λ l. ⌜ ListedAfter sizes outcome l ⌝ }
 {
-    let a = not_found();
-    let reference = a.reference;
-    Stepped {
-        answer,
-        reference,
-        next: state,
+    match sizes {
+        Sizes::Right => listed_of(outcome),
+        Sizes::NotWhole => Listed::NotWhole,
+        Sizes::TooMany => Listed::TooMany,
     }
 }
 
-// A step in regions of right sizes.
-fn advance<'a>(state: Listing, worktree: &'a [u8], common: &'a [u8], packed: &'a [u8]) -> Stepped
-    ensures { λ s. ⌜ step-of s ≡ moved (state-of state) (move-in (now (worktree .entry)) (now (common .entry)) (now (packed .entry)) (state-of state)) ⌝ }
+// Is the listing ended after a step? One that is turned away leaves it as it was.
+fn ended_after(sizes: Sizes, ended: bool, outcome: Outcome) -> bool
+    ensures { λ b. ⌜ EndedAfter sizes «ended» outcome b ⌝ }
 {
-    let expansion = state.expansion;
-    let b = expansion.bytes;
-    let len = expansion.len;
-    let e = lend(&b, len);
-    let w = peek(worktree, Region::Worktree, e, state.worktree);
-    let c = peek(common, Region::Common, e, state.common);
-    let p = peek(packed, Region::Packed, e, state.packed);
-    let at = Positions {
-        worktree: state.worktree,
-        common: state.common,
-        packed: state.packed,
-    };
-    let m = choose(worktree, common, packed, w, c, p, at);
-    let given = m.given;
-    let next = m.next;
-    let a = hand_out(worktree, common, packed, given, e);
-    moved(expansion, next, a)
+    match sizes {
+        Sizes::Right => is_end(outcome),
+        Sizes::NotWhole => ended,
+        Sizes::TooMany => ended,
+    }
 }
 
-// One step (LooseThenPacked::next): it looks no further in a region than what waits there.
+// One step (LooseThenPacked::next): it looks no further in a region than what waits there. One way through it, whatever is
+// answered: a step is too large to be put together in several places.
 pub fn step<'a>(
     state: Listing,
     worktree: &'a [u8],
@@ -605,15 +650,30 @@ pub fn step<'a>(
     ensures { λ s. ⌜ step-of s ≡ step id-width (snapshot-of (now (worktree .entry)) (if-there «has_common» (now (common .entry))) (now (packed .entry))) (state-of state) ⌝ }
 {
     let sizes = size_check(worktree, common, has_common, packed);
-    match sizes {
-        Sizes::Right => {
-            let ended = state.ended;
-            if ended {
-                return stays(state, Listed::Ended);
-            }
-            advance(state, worktree, or_empty(common, has_common), packed)
-        }
-        Sizes::NotWhole => stays(state, Listed::NotWhole),
-        Sizes::TooMany => stays(state, Listed::TooMany),
+    let shared = or_empty(common, has_common);
+    let at = Positions {
+        worktree: state.worktree,
+        common: state.common,
+        packed: state.packed,
+    };
+    let ended = state.ended;
+    let len = state.expansion.len;
+    let e = lend(&state.expansion.bytes, len);
+    let m = move_of(sizes, ended, worktree, shared, packed, e, at);
+    let given = m.given;
+    let said = said_of(worktree, shared, packed, given);
+    let reference = reference_of(worktree, shared, packed, given, said, e);
+    let outcome = said.outcome;
+    let now_ended = ended_after(sizes, ended, outcome);
+    let mut next = state;
+    next.worktree = m.next.worktree;
+    next.common = m.next.common;
+    next.packed = m.next.packed;
+    next.ended = now_ended;
+    let answer = listed_after(sizes, outcome);
+    Stepped {
+        answer,
+        reference,
+        next,
     }
 }

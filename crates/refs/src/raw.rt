@@ -1,28 +1,27 @@
 // References and what an entry answers (raw.rs).
 ghost use mathlib.Core.Path.{_≡_};
 ghost use Prim.Native.Nat.{_≤_};
-ghost use mathlib.Core.Option.{none, some};
-ghost use lib.ListN.{length, drop};
-ghost use Rattle.names.specs.Bytes.{if_then_else_};
-ghost use Rattle.names.specs.Means.{content};
+ghost use lib.ListN.{length};
+ghost use Rattle.names.specs.Bytes.{Bytes, if_then_else_};
+ghost use Rattle.names.specs.Name.{longest};
 ghost use Rattle.blocks.specs.Layout.{longest-content};
-ghost use Rattle.blocks.specs.Content.{object, symbolic, read};
-ghost use Rattle.blocks.specs.Means.{id-width, id-in, name-in, refusal-number};
-ghost use Rattle.refs.specs.Answer.{nothing, found, refused, reading-says, strip-reference, strip-answer};
-ghost use Rattle.refs.specs.Means.{reason-number, reference-of, answered};
-ghost use Rattle.refs.specs.Promises.{EntryAnswer};
+ghost use Rattle.blocks.specs.Content.{read};
+ghost use Rattle.blocks.specs.Means.{id-width, refusal-number};
+ghost use Rattle.refs.specs.Answer.{nothing, found, refused, reading-says, strip-reference};
+ghost use Rattle.refs.specs.Means.{reason-number, reference-of};
+ghost use Rattle.refs.specs.Promises.{packed-reference, said-reference, said-answer, SaidBy, TargetPart};
 use blocks::block::EntryKind;
-use blocks::block::block_name;
 use blocks::decode::Refusal;
 use blocks::decode::TargetKind;
-use blocks::decode::try_from_path;
+use blocks::decode::target_kind;
+use blocks::decode::target_name;
 use blocks::parse::Id;
 use blocks::parse::id_of;
 use blocks::parse::second_id_of;
-use names::fullname::strip_namespace;
+use names::bytes::without;
 use names::name::Name;
 use names::name::empty;
-use names::name::from_bytes;
+use names::name::fill;
 
 pub enum Kind {
     Object,
@@ -75,83 +74,23 @@ pub struct Answered {
     pub reference: Reference,
 }
 
-// A reference to an object, without a peeled id.
-fn to_object(name: Name, id: Id) -> Reference
-    ensures { λ r. ⌜ reference-of r ≡ record { name = content name; target = object (id .digits); peeled = none } ⌝ }
+// What a block says of its reference, but for names and ids: the outcome, and where one is found its kind, whether it is a packed
+// record, which answers under its own name, and whether that has a peeled id.
+pub struct Said {
+    pub outcome: Outcome,
+    pub kind: Kind,
+    pub from_packed: bool,
+    pub has_peeled: bool,
+}
+
+fn refused(why: Reason) -> Said
+    ensures { λ s. ⌜ ((n own file : Bytes) → said-answer s n own file ≡ refused (reason-number why)) ⌝ }
 {
-    let target = empty();
-    let peeled = id_of(b"");
-    Reference {
-        name,
+    Said {
+        outcome: Outcome::Refused(why),
         kind: Kind::Object,
-        id,
-        target,
+        from_packed: false,
         has_peeled: false,
-        peeled,
-    }
-}
-
-fn without_reference(outcome: Outcome) -> Answered
-    ensures { λ a. ⌜ a .outcome ≡ outcome ⌝ }
-{
-    let name = empty();
-    let id = id_of(b"");
-    let reference = to_object(name, id);
-    Answered { outcome, reference }
-}
-
-pub(crate) fn not_found() -> Answered
-    ensures { λ a. ⌜ answered a ≡ nothing ⌝ }
-{
-    without_reference(Outcome::Nothing)
-}
-
-pub(crate) fn refused(why: Reason) -> Answered
-    ensures { λ a. ⌜ answered a ≡ refused (reason-number why) ⌝ }
-{
-    without_reference(Outcome::Refused(why))
-}
-
-// A loose file's answer under the name n: its target, or 10 to 12.
-fn loose(n: Name, file: &[u8]) -> Answered
-    requires { ⌜ length (now file) ≤ longest-content ⌝ }
-    ensures { λ a. ⌜ answered a ≡ reading-says (content n) (read id-width (now (file .entry))) ⌝ }
-{
-    let t = try_from_path(file);
-    let kind = t.kind;
-    match kind {
-        TargetKind::Object => {
-            let id = t.id;
-            let reference = to_object(n, id);
-            Answered {
-                outcome: Outcome::Found,
-                reference,
-            }
-        }
-        TargetKind::Symbolic => {
-            let target = t.name;
-            symbolic(n, target)
-        }
-        TargetKind::Refused(why) => refused(reason_of(why)),
-    }
-}
-
-fn symbolic(name: Name, target: Name) -> Answered
-    ensures { λ a. ⌜ answered a ≡ found (record { name = content name; target = symbolic (content target); peeled = none }) ⌝ }
-{
-    let id = id_of(b"");
-    let peeled = id_of(b"");
-    let reference = Reference {
-        name,
-        kind: Kind::Symbolic,
-        id,
-        target,
-        has_peeled: false,
-        peeled,
-    };
-    Answered {
-        outcome: Outcome::Found,
-        reference,
     }
 }
 
@@ -165,81 +104,128 @@ fn reason_of(why: Refusal) -> Reason
     }
 }
 
-// A packed record's answer under its own name.
-fn packed(name: Name, ids: &[u8], has_peeled: bool) -> Answered
-    ensures { λ a. ⌜ answered a ≡ found (record { name = content name; target = object (id-in id-width (now (ids .entry))); peeled = if «has_peeled» then some (id-in id-width (drop id-width (now (ids .entry)))) else none }) ⌝ }
+// A loose file's target, or 10 to 12.
+fn loose(file: &[u8]) -> Said
+    ensures { λ s. ⌜ ((n own : Bytes) → said-answer s n own (now (file .entry)) ≡ reading-says n (read id-width (now (file .entry)))) ⌝ }
 {
-    let id = id_of(ids);
-    let peeled = second_id_of(ids);
-    let target = empty();
-    let reference = Reference {
-        name,
-        kind: Kind::Object,
-        id,
-        target,
-        has_peeled,
-        peeled,
-    };
-    Answered {
-        outcome: Outcome::Found,
-        reference,
+    let kind = target_kind(file);
+    match kind {
+        TargetKind::Object => Said {
+            outcome: Outcome::Found,
+            kind: Kind::Object,
+            from_packed: false,
+            has_peeled: false,
+        },
+        TargetKind::Symbolic => Said {
+            outcome: Outcome::Found,
+            kind: Kind::Symbolic,
+            from_packed: false,
+            has_peeled: false,
+        },
+        TargetKind::Refused(why) => refused(reason_of(why)),
     }
 }
 
-// What an entry answers: a loose file under the name n, a record under its own.
-pub(crate) fn entry_answer(kind: EntryKind, n: Name, own: Name, file: &[u8]) -> Answered
-    requires { ⌜ length (now file) ≤ longest-content ⌝ }
-    ensures { λ a. ⌜ EntryAnswer kind (content n) (content own) (now (file .entry)) a ⌝ }
+fn packed(has_peeled: bool) -> Said
+    ensures { λ s. ⌜ ((n own file : Bytes) → said-answer s n own file ≡ found (packed-reference «has_peeled» own file)) ⌝ }
 {
-    match kind {
-        EntryKind::End => not_found(),
+    Said {
+        outcome: Outcome::Found,
+        kind: Kind::Object,
+        from_packed: true,
+        has_peeled,
+    }
+}
+
+// Past the last block.
+fn nothing() -> Said
+    ensures { λ s. ⌜ ((n own file : Bytes) → said-answer s n own file ≡ nothing) ⌝ }
+{
+    Said {
+        outcome: Outcome::Nothing,
+        kind: Kind::Object,
+        from_packed: false,
+        has_peeled: false,
+    }
+}
+
+// What the entry of a block with that content says.
+pub(crate) fn says(entry: EntryKind, file: &[u8]) -> Said
+    ensures { λ s. ⌜ SaidBy entry (now (file .entry)) s ⌝ }
+{
+    match entry {
+        EntryKind::End => nothing(),
         EntryKind::Damaged => refused(Reason::Damaged),
         EntryKind::Failed => refused(Reason::ErrorKind),
-        EntryKind::Loose => loose(n, file),
+        EntryKind::Loose => loose(file),
         EntryKind::Unread => refused(Reason::Unread),
-        EntryKind::Record => packed(own, file, false),
-        EntryKind::PeeledRecord => packed(own, file, true),
+        EntryKind::Record => packed(false),
+        EntryKind::PeeledRecord => packed(true),
     }
 }
 
-// The name of block k of a region.
-pub(crate) fn name_at(s: &[u8], k: usize) -> Name
-    ensures { λ n. ⌜ content n ≡ name-in (now (s .entry)) k ⌝ }
+// A loose file answers under the name n, a record under its own.
+fn answer_name<'a>(n: &'a [u8], own: &'a [u8], from_packed: bool) -> &'a [u8]
+    ensures { λ r. ⌜ now r ≡ (if «from_packed» then now (own .entry) else now (n .entry)) ⌝ }
 {
-    let m = from_bytes(block_name(s, k));
-    m.name
+    if from_packed { own } else { n }
 }
 
-// The reference without the namespace's expansion in front of its name and its symbolic target.
-fn strip_reference(r: Reference, e: &[u8]) -> Reference
-    ensures { λ q. ⌜ reference-of q ≡ strip-reference (now (e .entry)) (reference-of r) ⌝ }
+// The target's name in a content: none for an object.
+fn target_part(kind: Kind, file: &[u8]) -> &[u8]
+    ensures { λ r. ⌜ TargetPart kind (now (file .entry)) (now r) × (length (now r) ≤ length (now (file .entry))) ⌝ }
 {
-    let old_name = r.name;
-    let old_target = r.target;
-    let name = strip_namespace(old_name, e);
-    let target = strip_namespace(old_target, e);
-    let kind = r.kind;
-    let id = r.id;
-    let peeled = r.peeled;
-    Reference {
+    match kind {
+        Kind::Object => &file[0..0],
+        Kind::Symbolic => target_name(file),
+    }
+}
+
+// The reference that a block says, without the namespace's expansion e in front of name and symbolic target. Its bytes are put in
+// place once: it is too large to be handed on in parts.
+pub(crate) fn reference_with<'a>(
+    said: Said,
+    n: &'a [u8],
+    own: &'a [u8],
+    file: &[u8],
+    e: &[u8],
+) -> Reference
+    requires { ⌜ (length (now n) ≤ longest) × (length (now own) ≤ longest) × (length (now file) ≤ longest-content) ⌝ }
+    ensures { λ r. ⌜ reference-of r ≡ strip-reference (now (e .entry)) (said-reference said (now (n .entry)) (now (own .entry)) (now (file .entry))) ⌝ }
+{
+    let kind = said.kind;
+    let name = empty();
+    let target = empty();
+    let id = id_of(file);
+    let peeled = second_id_of(file);
+    let mut r = Reference {
         name,
         kind,
         id,
         target,
-        has_peeled: r.has_peeled,
+        has_peeled: said.has_peeled,
         peeled,
-    }
+    };
+    let name_len = fill(
+        &mut r.name.bytes,
+        without(answer_name(n, own, said.from_packed), e),
+    );
+    r.name.len = name_len;
+    let target_len = fill(&mut r.target.bytes, without(target_part(kind, file), e));
+    r.target.len = target_len;
+    r
 }
 
-// The same for an answer. Without a namespace it stays as it is.
-pub(crate) fn strip_answer(a: Answered, e: &[u8]) -> Answered
-    ensures { λ q. ⌜ answered q ≡ strip-answer (now (e .entry)) (answered a) ⌝ }
-{
-    if e.len() == 0 {
-        return a;
+// A reference that stands beside an answer without one.
+pub(crate) fn no_reference() -> Reference {
+    let name = empty();
+    let id = id_of(b"");
+    Reference {
+        name,
+        kind: Kind::Object,
+        id,
+        target: name,
+        has_peeled: false,
+        peeled: id,
     }
-    let r = a.reference;
-    let reference = strip_reference(r, e);
-    let outcome = a.outcome;
-    Answered { outcome, reference }
 }

@@ -3,26 +3,26 @@ use crate::check::Gate;
 use crate::check::check_call;
 use crate::check::is_passed;
 use crate::find::find_one_with_verified_input;
-use crate::raw::Answered;
+use crate::find::reference_of;
+use crate::find::said_of;
 use crate::raw::Kind;
 use crate::raw::Outcome;
 use crate::raw::Reason;
 use crate::raw::Reference;
-use crate::raw::not_found;
+use crate::raw::no_reference;
 use names::name::Name;
 use names::name::empty;
 use names::name::lend;
 use names::name::same_name;
 ghost use mathlib.Core.Path.{_≡_};
 ghost use mathlib.Core.List.{map};
-ghost use mathlib.Core.Bool.{false};
 ghost use Prim.Native.Nat.{_≤_};
 ghost use lib.ListN.{take};
 ghost use Rattle.names.specs.Means.{content};
 ghost use Rattle.blocks.specs.Means.{id-width, if-there, snapshot-of};
 ghost use Rattle.refs.specs.Follow.{max-ref-depth, among, follow};
-ghost use Rattle.refs.specs.Promises.{FitRegions, AnswerTurn, TurnOf, followed-from, following-of};
-ghost use Rattle.refs.specs.Means.{reference-of, answered, gated, stop-number, trail-of};
+ghost use Rattle.refs.specs.Promises.{FitRegions, is-object, is-found, ending-of, start-of, followed-from, following-of};
+ghost use Rattle.refs.specs.Means.{reference-of, gated, stop-number, trail-of};
 
 // How many names may be seen.
 pub const MAX_REF_DEPTH: usize = 5;
@@ -74,87 +74,42 @@ fn is_seen(names: [Name; MAX_REF_DEPTH], n: usize, x: Name) -> bool
     false
 }
 
-// One turn: where following ends, or the next reference.
-pub struct Turn {
-    pub go: bool,
-    pub ending: Ending,
-    pub reference: Reference,
-}
-
-fn ended(ending: Ending, reference: Reference) -> Turn
-    ensures { λ t. ⌜ t ≡ record { go = false; ending = ending; reference = reference } ⌝ }
+fn is_object(kind: Kind) -> bool
+    ensures { λ r. ⌜ r ≡ is-object kind ⌝ }
 {
-    Turn {
-        go: false,
-        ending,
-        reference,
-    }
-}
-
-// Where the answer for r's target leads, after the first n names seen.
-fn answer_turn(a: Answered, r: Reference, seen: [Name; MAX_REF_DEPTH], n: usize) -> Turn
-    requires { ⌜ n ≤ max-ref-depth ⌝ }
-    ensures { λ t. ⌜ AnswerTurn (map content (take n seen)) (reference-of r) (answered a) t ⌝ }
-{
-    let outcome = a.outcome;
-    match outcome {
-        Outcome::Nothing => ended(Ending::Stopped(Stop::NotFound), r),
-        Outcome::Refused(why) => ended(Ending::Refused(why), r),
-        Outcome::Found => {
-            let reference = a.reference;
-            let name = reference.name;
-            if is_seen(seen, n, name) {
-                return ended(Ending::Stopped(Stop::Cycle), r);
-            }
-            Turn {
-                go: true,
-                ending: Ending::Reached,
-                reference,
-            }
-        }
-    }
-}
-
-// Where r leads: its target is searched as a partial name again, unchecked.
-fn follow_once<'a>(
-    worktree: &'a [u8],
-    common: &'a [u8],
-    has_common: bool,
-    packed: &[u8],
-    e: &[u8],
-    r: Reference,
-    seen: [Name; MAX_REF_DEPTH],
-    n: usize,
-) -> Turn
-    requires { ⌜ FitRegions (snapshot-of (now worktree) (if-there «has_common» (now common)) (now packed)) × (n ≤ max-ref-depth) ⌝ }
-    ensures { λ t. ⌜ TurnOf (now (e .entry)) (snapshot-of (now (worktree .entry)) (if-there «has_common» (now (common .entry))) (now (packed .entry))) (map content (take n seen)) (reference-of r) t ⌝ }
-{
-    let kind = r.kind;
     match kind {
-        Kind::Object => ended(Ending::Reached, r),
-        Kind::Symbolic => {
-            let target = r.target;
-            let b = target.bytes;
-            let len = target.len;
-            let a = find_one_with_verified_input(
-                worktree,
-                common,
-                has_common,
-                packed,
-                e,
-                lend(&b, len),
-            );
-            answer_turn(a, r, seen, n)
-        }
+        Kind::Object => true,
+        Kind::Symbolic => false,
     }
 }
 
-// Following from r: the starting reference does not count as seen.
+fn is_found(outcome: Outcome) -> bool
+    ensures { λ r. ⌜ r ≡ is-found outcome ⌝ }
+{
+    match outcome {
+        Outcome::Nothing => false,
+        Outcome::Found => true,
+        Outcome::Refused(_) => false,
+    }
+}
+
+// How following ends where a target is not found, or refused.
+fn ending_of(outcome: Outcome) -> Ending
+    ensures { λ r. ⌜ r ≡ ending-of outcome ⌝ }
+{
+    match outcome {
+        Outcome::Nothing => Ending::Stopped(Stop::NotFound),
+        Outcome::Found => Ending::Reached,
+        Outcome::Refused(why) => Ending::Refused(why),
+    }
+}
+
+// Following from r: the starting reference does not count as seen, and each target is searched as a partial name again, unchecked.
 fn follow_from<'a>(
     worktree: &'a [u8],
     common: &'a [u8],
     has_common: bool,
-    packed: &[u8],
+    packed: &'a [u8],
     e: &[u8],
     r: Reference,
 ) -> Trail
@@ -166,21 +121,45 @@ fn follow_from<'a>(
     let mut n: usize = 0;
     let mut last = r;
     while n < MAX_REF_DEPTH {
-        let t = follow_once(worktree, common, has_common, packed, e, last, seen, n);
-        let reference = t.reference;
-        let go = t.go;
-        if !go {
-            let ending = t.ending;
-            return Trail { ending, reference };
+        let kind = last.kind;
+        if is_object(kind) {
+            return ended(Ending::Reached, last);
         }
+        let len = last.target.len;
+        let target = lend(&last.target.bytes, len);
+        let h = find_one_with_verified_input(worktree, common, has_common, packed, e, target);
+        let source = h.source;
+        let said = said_of(worktree, common, packed, source);
+        let outcome = said.outcome;
+        if !is_found(outcome) {
+            return ended(ending_of(outcome), last);
+        }
+        let reference = reference_of(worktree, common, packed, e, h, said);
         let name = reference.name;
+        if is_seen(seen, n, name) {
+            return ended(Ending::Stopped(Stop::Cycle), last);
+        }
         seen[n] = name;
         last = reference;
         n += 1;
     }
-    Trail {
-        ending: Ending::Stopped(Stop::TooDeep),
-        reference: last,
+    ended(Ending::Stopped(Stop::TooDeep), last)
+}
+
+fn ended(ending: Ending, reference: Reference) -> Trail
+    ensures { λ t. ⌜ t ≡ record { ending = ending; reference = reference } ⌝ }
+{
+    Trail { ending, reference }
+}
+
+// How following from a name ends, where its own search finds nothing to follow.
+fn start_of(outcome: Outcome) -> Ending
+    ensures { λ r. ⌜ r ≡ start-of outcome ⌝ }
+{
+    match outcome {
+        Outcome::Nothing => Ending::NotThere,
+        Outcome::Found => Ending::Reached,
+        Outcome::Refused(why) => Ending::Refused(why),
     }
 }
 
@@ -189,27 +168,22 @@ fn follow_to_object<'a>(
     worktree: &'a [u8],
     common: &'a [u8],
     has_common: bool,
-    packed: &[u8],
+    packed: &'a [u8],
     e: &[u8],
     x: &[u8],
 ) -> Trail
     requires { ⌜ FitRegions (snapshot-of (now worktree) (if-there «has_common» (now common)) (now packed)) ⌝ }
     ensures { λ t. ⌜ trail-of t ≡ following-of (now (e .entry)) (snapshot-of (now (worktree .entry)) (if-there «has_common» (now (common .entry))) (now (packed .entry))) (now (x .entry)) ⌝ }
 {
-    let a = find_one_with_verified_input(worktree, common, has_common, packed, e, x);
-    let outcome = a.outcome;
-    let reference = a.reference;
-    match outcome {
-        Outcome::Nothing => Trail {
-            ending: Ending::NotThere,
-            reference,
-        },
-        Outcome::Refused(why) => Trail {
-            ending: Ending::Refused(why),
-            reference,
-        },
-        Outcome::Found => follow_from(worktree, common, has_common, packed, e, reference),
+    let h = find_one_with_verified_input(worktree, common, has_common, packed, e, x);
+    let source = h.source;
+    let said = said_of(worktree, common, packed, source);
+    let outcome = said.outcome;
+    let reference = reference_of(worktree, common, packed, e, h, said);
+    if !is_found(outcome) {
+        return ended(start_of(outcome), reference);
     }
+    follow_from(worktree, common, has_common, packed, e, reference)
 }
 
 // What following gives: the trail counts where the call passed its checks.
@@ -224,7 +198,7 @@ pub fn follow<'a>(
     worktree: &'a [u8],
     common: &'a [u8],
     has_common: bool,
-    packed: &[u8],
+    packed: &'a [u8],
     name: &[u8],
     namespace: &[u8],
     has_namespace: bool,
@@ -245,16 +219,14 @@ pub fn follow<'a>(
         let trail = no_trail();
         return Followed { gate, trail };
     }
-    let expansion = call.expansion;
-    let b = expansion.bytes;
-    let len = expansion.len;
-    let trail = follow_to_object(worktree, common, has_common, packed, lend(&b, len), name);
+    let len = call.expansion.len;
+    let e = lend(&call.expansion.bytes, len);
+    let trail = follow_to_object(worktree, common, has_common, packed, e, name);
     Followed { gate, trail }
 }
 
 fn no_trail() -> Trail {
-    let a = not_found();
-    let reference = a.reference;
+    let reference = no_reference();
     Trail {
         ending: Ending::NotThere,
         reference,

@@ -344,7 +344,7 @@ pub fn show<'a>(
     worktree: &'a [u8],
     common: &'a [u8],
     has_common: bool,
-    packed: &[u8],
+    packed: &'a [u8],
     name: &[u8],
     namespace: &[u8],
     has_namespace: bool,

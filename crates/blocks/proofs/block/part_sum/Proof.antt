@@ -1,6 +1,7 @@
 -- The invariant: the sum of the first i bytes.
 use mathlib.Core.Path.{_≡_, sym, ap, ap₂, _∙_}
-use Prim.Native.Nat.{_≤_, _*_, _-_}
+use Prim.Native.Nat.{_≤_, _+_, _*_, _-_}
+use native.Mathlib.Nat.{mod-eq-of-lt}
 use lib.ListN.{length, take}
 use lib.Seq.{take-all}
 use Rattle.blocks.specs.Block.{weighted}
@@ -27,6 +28,12 @@ add-w c = search needs
 
 add-w-2 : tie.Need-add-w-2 Inv-loop μ-loop
 add-w-2 c = search needs
+
+cast-w-2 : tie.Need-cast-w-2 Inv-loop μ-loop
+cast-w-2 c = search needs
+
+rem-w : tie.Need-rem-w Inv-loop μ-loop
+rem-w c = search needs
 
 full-requires : tie.Need-full-requires Inv-loop μ-loop
 full-requires c κs = search needs
@@ -55,7 +62,8 @@ loop-again c =
     let i = c .before .before .before .before .loop .i in
     let weight = c .before .before .full in
     let h = product-le (weight .result) (c .wide .result) (omega arith) (c .wide .ensures .1) in
-    let e = ap₂ _*_ (weight .ensures) (c .wide .ensures .0) in
+    let w : weight .result ≡ start .k + i + 1 = weight .ensures ∙ mod-eq-of-lt (omega arith) in
+    let e = ap₂ _*_ w (c .wide .ensures .0) in
     let more = weighted-more (start .k) (start .s .now) i (omega arith) in
     (omega arith, omega arith, omega arith)
 
@@ -74,6 +82,8 @@ part-sum-spec =
     cast-w
     add-w
     add-w-2
+    cast-w-2
+    rem-w
     full-requires
     shared-slice-read-wide
     wide-requires

@@ -7,6 +7,13 @@ use native.Mathlib.Omega.{arith}
 use borrow.Author.Needs.{needs}
 use Rattle.capi.proofs.listing.cosvint_list_step.Statement.{statement}
 use Rattle.capi.proofs.listing.cosvint_list_step.Tie as tie
+use Rattle.capi.proofs.listing.cosvint_list_step.Reads as reads
+use Rattle.capi.proofs.listing.put_listed.Reads as put-listed-reads
+use Rattle.capi.proofs.listing.put_state.Reads as put-state-reads
+use Rattle.capi.proofs.listing.state_of.Reads as state-of-reads
+use Rattle.capi.proofs.report.kind_of.Reads as kind-of-reads
+use Rattle.names.proofs.name.lend.Reads as lend-reads
+use Rattle.refs.proofs.overlay_iter.step.Reads as step-reads
 
 returns : tie.Need-returns
 returns c =
@@ -24,8 +31,20 @@ state-of-requires c κs = search needs
 step-requires : tie.Need-step-requires
 step-requires c κs = search needs
 
+lend-requires : tie.Need-lend-requires
+lend-requires c κs = search needs
+
 put-state-requires : tie.Need-put-state-requires
 put-state-requires c κs = search needs
+
+lend-requires-2 : tie.Need-lend-requires-2
+lend-requires-2 c κs = search needs
+
+kind-of-requires : tie.Need-kind-of-requires
+kind-of-requires c κs = search needs
+
+lend-requires-3 : tie.Need-lend-requires-3
+lend-requires-3 c κs = search needs
 
 put-listed-requires : tie.Need-put-listed-requires
 put-listed-requires c κs = search needs
@@ -38,18 +57,20 @@ same-length-2 c = search needs
 
 returns-3 : tie.Need-returns-3
 returns-3 c =
-    let args = c .before .before .before .before .before .before .before .before .before .before .before .before .before .before .before .before .before .before .before .args in
-    let d = c .before .before .before .before .before .before .before .before .before .step in
-    let start = c .before .before .before .before .before .before .before .before .before .before .state-of in
+    let args = c .before .before .before .before .before .before .before .before .before .before .before .before .before .before .before .before .before .before .before .before .before .before .before .before .before .before .before .before .before .before .before .before .before .before .before .args in
+    let start = c .before .before .before .before .before .before .before .before .before .before .before .before .before .before .before .before .before .before .before .before .before .before .before .before .before .before .state-of in
+    let name = c .before .before .before .before .before .before .before .before .before .before .before .before .before .lend2 .ensures in
+    let kind = c .before .before .before .before .before .before .before .before .before .before .before .kind-of .ensures in
+    let target = c .before .before .before .before .before .before .before .lend3 .ensures in
     step-given
     (snapshot-of (args .worktree .now) (if-there (args .has-common) (args .common .now)) (args .packed .now))
     (state-of (start .result))
-    (omega (arith, c .before .before .before .before .before .before .before .before .before .before .before .before .before .if1 .left))
-    (omega (arith, c .before .before .before .before .before .before .before .before .before .before .before .before .if2 .left))
-    (d .ensures)
+    (omega (arith, c .before .before .before .before .before .before .before .before .before .before .before .before .before .before .before .before .before .before .before .before .before .before .before .before .before .before .before .before .before .if1 .left))
+    (omega (arith, c .before .before .before .before .before .before .before .before .before .before .before .before .before .before .before .before .before .before .before .before .before .before .before .before .before .before .before .before .if2 .left))
+    (c .before .before .before .before .before .before .before .before .before .before .before .before .before .before .before .before .before .before .before .before .before .before .before .before .before .step .ensures)
     (start .ensures)
-    (c .before .before .before .before .before .before .put-state .ensures)
-    (c .before .before .put-listed .ensures)
+    (rw (c .before .before .before .before .before .before .before .before .before .before .before .before .before .before .before .before .before .before .before .before .lend .ensures) at (c .before .before .before .before .before .before .before .before .before .before .before .before .before .before .before .before .before .before .before .put-state .ensures))
+    (rw (name, kind, target) at (c .before .before .put-listed .ensures))
 
 pub cosvint-list-step-spec : {M : Type 1} → statement M
 cosvint-list-step-spec =
@@ -59,7 +80,11 @@ cosvint-list-step-spec =
     returns-2
     state-of-requires
     step-requires
+    lend-requires
     put-state-requires
+    lend-requires-2
+    kind-of-requires
+    lend-requires-3
     put-listed-requires
     same-length
     same-length-2

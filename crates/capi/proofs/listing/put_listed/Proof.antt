@@ -1,6 +1,10 @@
 use borrow.Author.Needs.{needs}
 use Rattle.capi.proofs.listing.put_listed.Statement.{statement}
 use Rattle.capi.proofs.listing.put_listed.Tie as tie
+use Rattle.capi.proofs.listing.put_listed.Reads as reads
+use Rattle.capi.proofs.report.put_number.Reads as put-number-reads
+use Rattle.capi.proofs.report.put_numbered.Reads as put-numbered-reads
+use Rattle.refs.proofs.raw.reason_number.Reads as reason-number-reads
 
 enum-told : tie.Need-enum-told
 enum-told c = search needs
@@ -20,8 +24,8 @@ enum-told-3 c = search needs
 put-numbered-requires : tie.Need-put-numbered-requires
 put-numbered-requires c κs = search needs
 
-enum-known-a : tie.Need-enum-known-a
-enum-known-a c = search needs
+enum-known-answer : tie.Need-enum-known-answer
+enum-known-answer c = search needs
 
 reason-number-requires : tie.Need-reason-number-requires
 reason-number-requires c κs = search needs
@@ -57,7 +61,7 @@ same-length-4 : tie.Need-same-length-4
 same-length-4 c = search needs
 
 returns-4 : tie.Need-returns-4
-returns-4 c = rw (c .before .before .before .before .before .before .a .given .1, ← c .before .before .before .reason-number .ensures) (c .before .before .put-number3 .ensures)
+returns-4 c = rw (c .before .before .before .before .before .before .answer .given .1, ← c .before .before .before .reason-number .ensures) (c .before .before .put-number3 .ensures)
 
 same-length-5 : tie.Need-same-length-5
 same-length-5 c = search needs
@@ -75,7 +79,7 @@ put-listed-spec =
     put-number-requires-2
     enum-told-3
     put-numbered-requires
-    enum-known-a
+    enum-known-answer
     reason-number-requires
     put-number-requires-3
     enum-told-4

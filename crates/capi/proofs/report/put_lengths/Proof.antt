@@ -15,14 +15,8 @@ bit-requires c κs = search needs
 put-word-requires-2 : tie.Need-put-word-requires-2
 put-word-requires-2 c κs = search needs
 
-size-requires : tie.Need-size-requires
-size-requires c κs = search needs
-
 put-word-requires-3 : tie.Need-put-word-requires-3
 put-word-requires-3 c κs = search needs
-
-size-requires-2 : tie.Need-size-requires-2
-size-requires-2 c κs = search needs
 
 put-word-requires-4 : tie.Need-put-word-requires-4
 put-word-requires-4 c κs = search needs
@@ -32,19 +26,18 @@ same-length c = search needs
 
 returns : tie.Need-returns
 returns c =
-    let kind = c .before .before .before .before .before .before .before .before .before .before .before .before .before .before .before .before .before .before .kind-number in
-    let peeled = c .before .before .before .before .before .before .before .before .before .before .before .before .before .bit in
-    let name = c .before .before .before .before .before .before .before .before .size in
-    let target = c .before .before .before .size2 in
-    rw (← kind .ensures, ← peeled .ensures, ← name .ensures .is, ← target .ensures .is)
+    let args = c .before .before .before .before .before .before .before .before .before .before .before .before .before .before .before .before .before .before .before .args in
+    let kind = c .before .before .before .before .before .before .before .before .before .before .before .before .before .before .before .before .kind-number in
+    let peeled = c .before .before .before .before .before .before .before .before .before .before .before .bit in
+    rw (← kind .ensures, ← peeled .ensures)
     (wrote-lengths
     (kind .result)
     (peeled .result)
-    (name .result)
-    (target .result)
-    (c .before .before .before .before .before .before .before .before .before .before .before .before .before .before .before .before .before .put-word .ensures)
-    (c .before .before .before .before .before .before .before .before .before .before .before .before .put-word2 .ensures)
-    (c .before .before .before .before .before .before .before .put-word3 .ensures)
+    (args .name)
+    (args .target)
+    (c .before .before .before .before .before .before .before .before .before .before .before .before .before .before .before .put-word .ensures)
+    (c .before .before .before .before .before .before .before .before .before .before .put-word2 .ensures)
+    (c .before .before .before .before .before .before .put-word3 .ensures)
     (c .before .before .put-word4 .ensures))
 
 pub put-lengths-spec : {M : Type 1} → statement M
@@ -55,9 +48,7 @@ put-lengths-spec =
     put-word-requires
     bit-requires
     put-word-requires-2
-    size-requires
     put-word-requires-3
-    size-requires-2
     put-word-requires-4
     same-length
     returns)

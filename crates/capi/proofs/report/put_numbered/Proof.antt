@@ -1,7 +1,7 @@
 use mathlib.Core.Path.{refl}
 use mathlib.Core.Option.{some}
-use Rattle.refs.specs.Means.{reference-of}
 use Rattle.capi.specs.Report.{report}
+use Rattle.capi.specs.Promises.{reference-with}
 use Rattle.capi.proofs.Records.{reported}
 use borrow.Author.Needs.{needs}
 use Rattle.capi.proofs.report.put_numbered.Statement.{statement}
@@ -18,8 +18,9 @@ same-length c = search needs
 
 returns : tie.Need-returns
 returns c =
-    let args = c .before .before .before .before .before .before .before .before .before .args in
-    reported (report (args .number) (some (reference-of (args .r)))) (args .number) refl (c .before .before .before .before .before .before .put-place .ensures) (c .before .before .put-reference .ensures)
+    let args = c .before .before .before .before .before .before .before .before .before .before .before .before .before .args in
+    let reference = reference-with (args .name .now) (args .kind) (args .id .now) (args .target .now) (args .has-peeled) (args .peeled .now) in
+    reported (report (args .number) (some reference)) (args .number) refl (c .before .before .before .before .before .before .put-place .ensures) (c .before .before .put-reference .ensures)
 
 pub put-numbered-spec : {M : Type 1} → statement M
 put-numbered-spec =

@@ -1,61 +1,68 @@
-use Rattle.names.specs.Means.{content}
 use Rattle.capi.proofs.Records.{wrote-reference}
 use borrow.Author.Needs.{needs}
 use Rattle.capi.proofs.report.put_reference.Statement.{statement}
 use Rattle.capi.proofs.report.put_reference.Tie as tie
 
-shown-target-requires : tie.Need-shown-target-requires
-shown-target-requires c κs = search needs
+is-object-requires : tie.Need-is-object-requires
+is-object-requires c κs = search needs
+
+if-there-requires : tie.Need-if-there-requires
+if-there-requires c κs = search needs
 
 put-lengths-requires : tie.Need-put-lengths-requires
 put-lengths-requires c κs = search needs
 
-is-object-requires : tie.Need-is-object-requires
-is-object-requires c κs = search needs
+if-there-requires-2 : tie.Need-if-there-requires-2
+if-there-requires-2 c κs = search needs
 
-put-id-requires : tie.Need-put-id-requires
-put-id-requires c κs = search needs
+put-padded-requires : tie.Need-put-padded-requires
+put-padded-requires c κs = search needs
 
-put-id-requires-2 : tie.Need-put-id-requires-2
-put-id-requires-2 c κs = search needs
+if-there-requires-3 : tie.Need-if-there-requires-3
+if-there-requires-3 c κs = search needs
 
-put-name-requires : tie.Need-put-name-requires
-put-name-requires c κs = search needs
+put-padded-requires-2 : tie.Need-put-padded-requires-2
+put-padded-requires-2 c κs = search needs
 
-put-name-requires-2 : tie.Need-put-name-requires-2
-put-name-requires-2 c κs = search needs
+put-padded-requires-3 : tie.Need-put-padded-requires-3
+put-padded-requires-3 c κs = search needs
+
+put-padded-requires-4 : tie.Need-put-padded-requires-4
+put-padded-requires-4 c κs = search needs
 
 same-length : tie.Need-same-length
 same-length c = search needs
 
 returns : tie.Need-returns
 returns c =
-    let r = c .before .before .before .before .before .before .before .before .before .before .before .before .before .before .before .before .before .before .before .before .before .before .before .before .args .r in
-    let target = c .before .before .before .before .before .before .before .before .before .before .before .before .before .before .before .before .before .before .before .before .before .shown-target .ensures in
-    let is-object = c .before .before .before .before .before .before .before .before .before .before .before .before .before .before .before .is-object .ensures in
+    let args = c .before .before .before .before .before .before .before .before .before .before .before .before .before .before .before .before .before .before .before .before .before .before .before .before .before .before .before .before .before .args in
+    let object = c .before .before .before .before .before .before .before .before .before .before .before .before .before .before .before .before .before .before .before .before .before .before .before .is-object .ensures in
+    let shown = c .before .before .before .before .before .before .before .before .before .before .before .before .before .before .before .before .before .before .before .before .before .before .if-there .ensures in
     wrote-reference
-    (r .kind)
-    (r .«has_peeled»)
-    (r .id .digits)
-    (r .peeled .digits)
-    (content (r .name))
-    (content (r .target))
-    (rw target at (c .before .before .before .before .before .before .before .before .before .before .before .before .before .before .before .before .before .before .before .put-lengths .ensures))
-    (rw is-object at (c .before .before .before .before .before .before .before .before .before .before .before .before .before .before .put-id .ensures))
-    (c .before .before .before .before .before .before .before .before .before .before .put-id2 .ensures)
-    (c .before .before .before .before .before .before .put-name .ensures)
-    (rw target at (c .before .before .put-name2 .ensures))
+    (args .name .now)
+    (args .kind)
+    (args .id .now)
+    (args .target .now)
+    (args .has-peeled)
+    (args .peeled .now)
+    (rw (shown, object) at (c .before .before .before .before .before .before .before .before .before .before .before .before .before .before .before .before .before .before .before .before .put-lengths .ensures))
+    (rw (c .before .before .before .before .before .before .before .before .before .before .before .before .before .before .before .before .if-there2 .ensures, object) at (c .before .before .before .before .before .before .before .before .before .before .before .before .before .before .before .put-padded .ensures))
+    (rw (c .before .before .before .before .before .before .before .before .before .before .before .if-there3 .ensures) at (c .before .before .before .before .before .before .before .before .before .before .put-padded2 .ensures))
+    (c .before .before .before .before .before .before .put-padded3 .ensures)
+    (rw (shown, object) at (c .before .before .put-padded4 .ensures))
 
 pub put-reference-spec : {M : Type 1} → statement M
 put-reference-spec =
     tie.close
     (tie.spec
-    shown-target-requires
-    put-lengths-requires
     is-object-requires
-    put-id-requires
-    put-id-requires-2
-    put-name-requires
-    put-name-requires-2
+    if-there-requires
+    put-lengths-requires
+    if-there-requires-2
+    put-padded-requires
+    if-there-requires-3
+    put-padded-requires-2
+    put-padded-requires-3
+    put-padded-requires-4
     same-length
     returns)

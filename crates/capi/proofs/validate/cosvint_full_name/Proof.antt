@@ -1,21 +1,22 @@
 use mathlib.Core.Path.{ap, _∙_}
-use Rattle.names.specs.Means.{check-of, full-content}
-use Rattle.capi.specs.Report.{checked-number}
+use Rattle.names.specs.Means.{full-check, full-checked}
+use Rattle.capi.specs.Report.{check-number}
 use Rattle.capi.proofs.Calls.{number-of}
 use borrow.Author.Needs.{needs}
 use Rattle.capi.proofs.validate.cosvint_full_name.Statement.{statement}
 use Rattle.capi.proofs.validate.cosvint_full_name.Tie as tie
 
-full-name-requires : tie.Need-full-name-requires
-full-name-requires c κs = search needs
+check-full-requires : tie.Need-check-full-requires
+check-full-requires c κs = search needs
 
 verdict-number-requires : tie.Need-verdict-number-requires
 verdict-number-requires c κs = search needs
 
 returns : tie.Need-returns
+unfolding full-checked
 returns c =
-    let checked = c .before .full-name in
-    c .verdict-number .ensures ∙ number-of (check-of (checked .result .verdict)) (full-content (checked .result .name)) ∙ ap checked-number (checked .ensures)
+    let name = c .before .before .before .args .name .now in
+    c .verdict-number .ensures ∙ ap check-number (c .before .check-full .ensures) ∙ number-of (full-check name) name
 
 pub cosvint-full-name-spec : {M : Type 1} → statement M
-cosvint-full-name-spec = tie.close (tie.spec full-name-requires verdict-number-requires returns)
+cosvint-full-name-spec = tie.close (tie.spec check-full-requires verdict-number-requires returns)

@@ -1,21 +1,24 @@
 use mathlib.Core.Path.{ap, _∙_}
-use Rattle.names.specs.Means.{check-of, expansion-content}
-use Rattle.capi.specs.Report.{checked-number}
+use mathlib.Core.Option.{none, some}
+use Rattle.names.specs.Namespace.{expand, expanded, names-check}
+use Rattle.capi.specs.Report.{check-number}
 use Rattle.capi.proofs.Calls.{number-of}
 use borrow.Author.Needs.{needs}
 use Rattle.capi.proofs.validate.cosvint_namespace.Statement.{statement}
 use Rattle.capi.proofs.validate.cosvint_namespace.Tie as tie
 
-expand-requires : tie.Need-expand-requires
-expand-requires c κs = search needs
+check-namespace-requires : tie.Need-check-namespace-requires
+check-namespace-requires c κs = search needs
 
 verdict-number-requires : tie.Need-verdict-number-requires
 verdict-number-requires c κs = search needs
 
 returns : tie.Need-returns
+unfolding expanded
 returns c =
-    let checked = c .before .expand in
-    c .verdict-number .ensures ∙ number-of (check-of (checked .result .verdict)) (expansion-content (checked .result .name)) ∙ ap checked-number (checked .ensures)
+    let s = c .before .before .before .args .namespace .now in
+    c .verdict-number .ensures ∙ ap check-number (c .before .check-namespace .ensures) ∙ number-of (names-check none (some s)) (expand s)
 
 pub cosvint-namespace-spec : {M : Type 1} → statement M
-cosvint-namespace-spec = tie.close (tie.spec expand-requires verdict-number-requires returns)
+cosvint-namespace-spec =
+    tie.close (tie.spec check-namespace-requires verdict-number-requires returns)

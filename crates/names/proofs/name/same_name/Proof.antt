@@ -4,14 +4,8 @@ use borrow.Author.Needs.{needs}
 use Rattle.names.proofs.name.same_name.Statement.{statement}
 use Rattle.names.proofs.name.same_name.Tie as tie
 
-slice-aggregate-lend : tie.Need-slice-aggregate-lend
-slice-aggregate-lend c = search needs
-
 lend-requires : tie.Need-lend-requires
 lend-requires c κs = search needs
-
-slice-aggregate-lend-2 : tie.Need-slice-aggregate-lend-2
-slice-aggregate-lend-2 c = search needs
 
 lend-requires-2 : tie.Need-lend-requires-2
 lend-requires-2 c κs = search needs
@@ -20,15 +14,7 @@ equal-requires : tie.Need-equal-requires
 equal-requires c κs = search needs
 
 returns : tie.Need-returns
-returns c = c .equal .ensures ∙ rw (c .before .before .before .lend .ensures, c .before .lend2 .ensures)
+returns c = c .equal .ensures ∙ rw (c .before .before .before .before .before .lend .ensures, c .before .lend2 .ensures)
 
 pub same-name-spec : {M : Type 1} → statement M
-same-name-spec =
-    tie.close
-    (tie.spec
-    slice-aggregate-lend
-    lend-requires
-    slice-aggregate-lend-2
-    lend-requires-2
-    equal-requires
-    returns)
+same-name-spec = tie.close (tie.spec lend-requires lend-requires-2 equal-requires returns)

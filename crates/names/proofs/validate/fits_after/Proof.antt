@@ -1,7 +1,7 @@
 -- By the first byte.
 use mathlib.Core.Path.{sym, _∙_}
 use borrow.Author.Needs.{needs}
-use Rattle.names.proofs.ByteRules.{plain-at, brace-at, other-at}
+use Rattle.names.proofs.ByteRules.{plain-fits, plain-at, brace-at, other-at}
 use Rattle.names.proofs.validate.fits_after.Statement.{statement}
 use Rattle.names.proofs.validate.fits_after.Tie as tie
 
@@ -12,7 +12,7 @@ is-plain-requires : tie.Need-is-plain-requires
 is-plain-requires c κs = search needs
 
 returns : tie.Need-returns
-returns c = sym (plain-at (c .before .before .before .before .args .p) (c .before .before .before .before .args .t .now) (c .before .before .before .before .pre) (c .before .is-plain .ensures (c .if1 .taken)))
+returns c = sym (plain-at (c .before .before .before .before .args .p) (c .before .before .before .before .args .t .now) (c .before .before .before .before .pre) (plain-fits _ (sym (c .before .is-plain .ensures) ∙ c .if1 .taken)))
 
 dot-fits-requires : tie.Need-dot-fits-requires
 dot-fits-requires c κs = (c .before .before .before .before .before .pre, c .match .keys1)

@@ -1,11 +1,16 @@
-use Rattle.refs.specs.Means.{answered}
-use mathlib.Core.Path.{sym, _∙_}
-use Rattle.blocks.specs.Means.{if-there, snapshot-of}
+use mathlib.Core.Path.{refl, sym, _∙_}
 use borrow.Author.Tests.{not-true, not-false}
+use Rattle.blocks.specs.Means.{if-there, snapshot-of}
+use Rattle.refs.proofs.Lookups.{same-source}
 use Rattle.refs.proofs.Searching.{search-first, search-one, search-second, search-last}
 use borrow.Author.Needs.{needs}
 use Rattle.refs.proofs.find.find_one_with_verified_input.Statement.{statement}
 use Rattle.refs.proofs.find.find_one_with_verified_input.Tie as tie
+use Rattle.refs.proofs.find.find_one_with_verified_input.Reads as reads
+use Rattle.names.proofs.name.is_pseudo_ref.Reads as is-pseudo-ref-reads
+use Rattle.refs.proofs.find.is_source.Reads as is-source-reads
+use Rattle.refs.proofs.find.one_pass.Reads as one-pass-reads
+use Rattle.refs.proofs.find.try_remote_head.Reads as try-remote-head-reads
 
 is-pseudo-ref-requires : tie.Need-is-pseudo-ref-requires
 is-pseudo-ref-requires c κs = search needs
@@ -13,17 +18,16 @@ is-pseudo-ref-requires c κs = search needs
 one-pass-requires : tie.Need-one-pass-requires
 one-pass-requires c κs = search needs
 
-has-answer-requires : tie.Need-has-answer-requires
-has-answer-requires c κs = search needs
+is-source-requires : tie.Need-is-source-requires
+is-source-requires c κs = search needs
 
 returns : tie.Need-returns
 returns c =
     let args = c .before .before .before .before .before .before .before .before .before .args in
-    let is-pseudo-ref = c .before .before .before .is-pseudo-ref in
-    let one-pass = c .before .before .one-pass in
-    search-first (args .e .now) (snapshot-of (args .worktree .now) (if-there (args .has-common) (args .common .now)) (args .packed .now)) (args .x .now)
-    (is-pseudo-ref .result) (is-pseudo-ref .ensures) (answered (one-pass .result)) (one-pass .ensures)
-    (sym (c .before .has-answer .ensures _) ∙ c .if1 .taken)
+    let pseudo = c .before .before .before .is-pseudo-ref in
+    let first = c .before .before .one-pass .ensures in
+    same-source (args .e .now) (args .worktree .now) (args .common .now) (args .packed .now) _ _ _ _
+    (search-first (args .e .now) (snapshot-of (args .worktree .now) (if-there (args .has-common) (args .common .now)) (args .packed .now)) (args .x .now) (pseudo .result) (pseudo .ensures) (first .answer) (first .first) (first .hit .there ∙ sym (c .before .is-source .ensures) ∙ c .if1 .taken)) (first .hit)
 
 try-remote-head-requires : tie.Need-try-remote-head-requires
 try-remote-head-requires c κs = search needs
@@ -31,30 +35,25 @@ try-remote-head-requires c κs = search needs
 returns-2 : tie.Need-returns-2
 returns-2 c =
     let args = c .before .before .before .before .before .before .before .before .before .before .before .args in
-    let is-pseudo-ref = c .before .before .before .before .before .is-pseudo-ref in
-    let one-pass = c .before .before .before .before .one-pass in
-    search-one (args .e .now) (snapshot-of (args .worktree .now) (if-there (args .has-common) (args .common .now)) (args .packed .now)) (args .x .now)
-    (is-pseudo-ref .result) (is-pseudo-ref .ensures) (answered (one-pass .result)) (one-pass .ensures)
-    (sym (c .before .before .before .has-answer .ensures _) ∙ c .before .before .if1 .left) (not-true _ (c .before .if2 .taken)) _
-    (c .try-remote-head .ensures)
+    let pseudo = c .before .before .before .before .before .is-pseudo-ref in
+    let first = c .before .before .before .before .one-pass .ensures in
+    same-source (args .e .now) (args .worktree .now) (args .common .now) (args .packed .now) _ _ _ _
+    (search-one (args .e .now) (snapshot-of (args .worktree .now) (if-there (args .has-common) (args .common .now)) (args .packed .now)) (args .x .now) (pseudo .result) (pseudo .ensures) (first .answer) (first .first) (first .hit .there ∙ sym (c .before .before .before .is-source .ensures) ∙ c .before .before .if1 .left) (not-true _ (c .before .if2 .taken)) _ refl) (c .try-remote-head .ensures)
 
 one-pass-requires-2 : tie.Need-one-pass-requires-2
 one-pass-requires-2 c κs = search needs
 
-has-answer-requires-2 : tie.Need-has-answer-requires-2
-has-answer-requires-2 c κs = search needs
+is-source-requires-2 : tie.Need-is-source-requires-2
+is-source-requires-2 c κs = search needs
 
 returns-3 : tie.Need-returns-3
 returns-3 c =
     let args = c .before .before .before .before .before .before .before .before .before .before .before .before .before .args in
-    let is-pseudo-ref = c .before .before .before .before .before .before .before .is-pseudo-ref in
-    let one-pass = c .before .before .before .before .before .before .one-pass in
-    let one-pass2 = c .before .before .one-pass2 in
-    search-second (args .e .now) (snapshot-of (args .worktree .now) (if-there (args .has-common) (args .common .now)) (args .packed .now)) (args .x .now)
-    (is-pseudo-ref .result) (is-pseudo-ref .ensures) (answered (one-pass .result)) (one-pass .ensures)
-    (sym (c .before .before .before .before .before .has-answer .ensures _) ∙ c .before .before .before .before .if1 .left)
-    (not-false _ (c .before .before .before .if2 .left)) (answered (one-pass2 .result)) (one-pass2 .ensures)
-    (sym (c .before .has-answer2 .ensures _) ∙ c .if3 .taken)
+    let pseudo = c .before .before .before .before .before .before .before .is-pseudo-ref in
+    let first = c .before .before .before .before .before .before .one-pass .ensures in
+    let second = c .before .before .one-pass2 .ensures in
+    same-source (args .e .now) (args .worktree .now) (args .common .now) (args .packed .now) _ _ _ _
+    (search-second (args .e .now) (snapshot-of (args .worktree .now) (if-there (args .has-common) (args .common .now)) (args .packed .now)) (args .x .now) (pseudo .result) (pseudo .ensures) (first .answer) (first .first) (first .hit .there ∙ sym (c .before .before .before .before .before .is-source .ensures) ∙ c .before .before .before .before .if1 .left) (not-false _ (c .before .before .before .if2 .left)) (second .answer) (second .first) (second .hit .there ∙ sym (c .before .is-source2 .ensures) ∙ c .if3 .taken)) (second .hit)
 
 try-remote-head-requires-2 : tie.Need-try-remote-head-requires-2
 try-remote-head-requires-2 c κs = search needs
@@ -62,14 +61,11 @@ try-remote-head-requires-2 c κs = search needs
 returns-4 : tie.Need-returns-4
 returns-4 c =
     let args = c .before .before .before .before .before .before .before .before .before .before .before .before .before .before .args in
-    let is-pseudo-ref = c .before .before .before .before .before .before .before .before .is-pseudo-ref in
-    let one-pass = c .before .before .before .before .before .before .before .one-pass in
-    let one-pass2 = c .before .before .before .one-pass2 in
-    search-last (args .e .now) (snapshot-of (args .worktree .now) (if-there (args .has-common) (args .common .now)) (args .packed .now)) (args .x .now)
-    (is-pseudo-ref .result) (is-pseudo-ref .ensures) (answered (one-pass .result)) (one-pass .ensures)
-    (sym (c .before .before .before .before .before .before .has-answer .ensures _) ∙ c .before .before .before .before .before .if1 .left)
-    (not-false _ (c .before .before .before .before .if2 .left)) (answered (one-pass2 .result)) (one-pass2 .ensures)
-    (sym (c .before .before .has-answer2 .ensures _) ∙ c .before .if3 .left) _ (c .try-remote-head2 .ensures)
+    let pseudo = c .before .before .before .before .before .before .before .before .is-pseudo-ref in
+    let first = c .before .before .before .before .before .before .before .one-pass .ensures in
+    let second = c .before .before .before .one-pass2 .ensures in
+    same-source (args .e .now) (args .worktree .now) (args .common .now) (args .packed .now) _ _ _ _
+    (search-last (args .e .now) (snapshot-of (args .worktree .now) (if-there (args .has-common) (args .common .now)) (args .packed .now)) (args .x .now) (pseudo .result) (pseudo .ensures) (first .answer) (first .first) (first .hit .there ∙ sym (c .before .before .before .before .before .before .is-source .ensures) ∙ c .before .before .before .before .before .if1 .left) (not-false _ (c .before .before .before .before .if2 .left)) (second .answer) (second .first) (second .hit .there ∙ sym (c .before .before .is-source2 .ensures) ∙ c .before .if3 .left) _ refl) (c .try-remote-head2 .ensures)
 
 pub find-one-with-verified-input-spec : {M : Type 1} → statement M
 find-one-with-verified-input-spec =
@@ -77,12 +73,12 @@ find-one-with-verified-input-spec =
     (tie.spec
     is-pseudo-ref-requires
     one-pass-requires
-    has-answer-requires
+    is-source-requires
     returns
     try-remote-head-requires
     returns-2
     one-pass-requires-2
-    has-answer-requires-2
+    is-source-requires-2
     returns-3
     try-remote-head-requires-2
     returns-4)

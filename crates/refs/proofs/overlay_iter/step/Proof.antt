@@ -1,81 +1,67 @@
-use mathlib.Core.Path.{ap}
-use Rattle.blocks.specs.Means.{sizes-check}
-use Rattle.refs.specs.Means.{state-of}
-use Rattle.refs.proofs.ListSteps.{step-refused, step-ended, step-moved}
+use Rattle.names.specs.Means.{content}
+use Rattle.refs.specs.Means.{reference-of, state-of}
+use Rattle.refs.proofs.ListSteps.{offer-answer, stepped}
 use borrow.Author.Needs.{needs}
 use Rattle.refs.proofs.overlay_iter.step.Statement.{statement}
 use Rattle.refs.proofs.overlay_iter.step.Tie as tie
+use Rattle.refs.proofs.overlay_iter.step.Reads as reads
+use Rattle.blocks.proofs.fitness.or_empty.Reads as or-empty-reads
+use Rattle.blocks.proofs.fitness.size_check.Reads as size-check-reads
+use Rattle.names.proofs.name.lend.Reads as lend-reads
+use Rattle.refs.proofs.overlay_iter.ended_after.Reads as ended-after-reads
+use Rattle.refs.proofs.overlay_iter.listed_after.Reads as listed-after-reads
+use Rattle.refs.proofs.overlay_iter.move_of.Reads as move-of-reads
+use Rattle.refs.proofs.overlay_iter.reference_of.Reads as reference-of-reads
+use Rattle.refs.proofs.overlay_iter.said_of.Reads as said-of-reads
 
 size-check-requires : tie.Need-size-check-requires
 size-check-requires c κs = search needs
 
-enum-told : tie.Need-enum-told
-enum-told c = search needs
-
-stays-requires : tie.Need-stays-requires
-stays-requires c κs = search needs
-
-returns : tie.Need-returns
-returns c =
-    let args = c .before .before .before .before .before .before .before .before .args in
-    let size-check = c .before .before .before .before .size-check in
-    step-ended (args .worktree .now) (args .common .now) (args .packed .now) (args .has-common) (state-of (args .state)) _ (size-check .result)
-    (size-check .ensures) (c .before .before .enum-told .given .1) (c .before .if1 .taken) (c .stays .ensures)
-
 or-empty-requires : tie.Need-or-empty-requires
 or-empty-requires c κs = search needs
 
-advance-requires : tie.Need-advance-requires
-advance-requires c κs = search needs
+lend-requires : tie.Need-lend-requires
+lend-requires c κs = search needs
 
-enum-told-2 : tie.Need-enum-told-2
-enum-told-2 c = search needs
+move-of-requires : tie.Need-move-of-requires
+move-of-requires c κs = search needs
 
-stays-requires-2 : tie.Need-stays-requires-2
-stays-requires-2 c κs = search needs
+said-of-requires : tie.Need-said-of-requires
+said-of-requires c κs = search needs
 
-enum-told-3 : tie.Need-enum-told-3
-enum-told-3 c = search needs
+reference-of-requires : tie.Need-reference-of-requires
+reference-of-requires c κs = search needs
 
-stays-requires-3 : tie.Need-stays-requires-3
-stays-requires-3 c κs = search needs
+ended-after-requires : tie.Need-ended-after-requires
+ended-after-requires c κs = search needs
 
-returns-2 : tie.Need-returns-2
-returns-2 c =
-    let args = c .before .before .before .before .before .before .before .before .before .args in
-    let size-check = c .before .before .before .before .before .size-check in
-    step-moved (args .worktree .now) (args .common .now) (args .packed .now) (args .has-common) (state-of (args .state)) _ (size-check .result)
-    (size-check .ensures) (c .before .before .before .enum-told .given .1) (c .before .before .if1 .left) _ (c .before .or-empty .ensures)
-    (c .advance .ensures)
+listed-after-requires : tie.Need-listed-after-requires
+listed-after-requires c κs = search needs
 
-returns-3 : tie.Need-returns-3
-returns-3 c =
-    let args = c .before .before .before .before .before .before .before .args in
-    let size-check = c .before .before .before .size-check in
-    step-refused (args .worktree .now) (args .common .now) (args .packed .now) (args .has-common) (state-of (args .state)) _ (size-check .result)
-    (size-check .ensures) 1 (ap sizes-check (c .before .enum-told2 .given .1)) (c .stays2 .ensures)
-
-returns-4 : tie.Need-returns-4
-returns-4 c =
-    let args = c .before .before .before .before .before .before .before .args in
-    let size-check = c .before .before .before .size-check in
-    step-refused (args .worktree .now) (args .common .now) (args .packed .now) (args .has-common) (state-of (args .state)) _ (size-check .result)
-    (size-check .ensures) 2 (ap sizes-check (c .before .enum-told3 .given .1)) (c .stays3 .ensures)
+returns : tie.Need-returns
+returns c =
+    let args = c .before .before .before .before .before .before .before .before .before .before .before .before .before .before .args in
+    let state = args .t1 in
+    let e = content (state .expansion) in
+    let lend = c .before .before .before .before .before .lend .ensures in
+    let there = c .before .before .before .before .before .before .before .before .before .or-empty in
+    let moved = c .before .before .before .before .move-of in
+    let said = c .before .before .before .said-of in
+    let r = reference-of (c .before .before .reference-of .result) in
+    rw
+    (c .listed-after .ensures r, c .before .ended-after .ensures r, offer-answer e (args .worktree .now) (there .result .now) (args .packed .now) (moved .result .given) (said .result) (said .ensures) (c .before .before .reference-of .result) (rw lend at (c .before .before .reference-of .ensures)))
+    (stepped (args .worktree .now) (args .common .now) (args .packed .now) (args .has-common) (c .before .before .before .before .before .before .before .before .before .before .size-check .result) (c .before .before .before .before .before .before .before .before .before .before .size-check .ensures) (state-of state .at) e (there .result .now) (there .ensures) (state .ended) _ (rw lend at (moved .ensures)))
 
 pub step-spec : {M : Type 1} → statement M
 step-spec =
     tie.close
     (tie.spec
     size-check-requires
-    enum-told
-    stays-requires
-    returns
     or-empty-requires
-    advance-requires
-    enum-told-2
-    stays-requires-2
-    enum-told-3
-    stays-requires-3
-    returns-2
-    returns-3
-    returns-4)
+    lend-requires
+    move-of-requires
+    said-of-requires
+    reference-of-requires
+    ended-after-requires
+    listed-after-requires
+    returns)

@@ -9,6 +9,12 @@ use Rattle.refs.proofs.Calls.{followed-stops, followed-passes}
 use borrow.Author.Needs.{needs}
 use Rattle.refs.proofs.raw_ext.follow.Statement.{statement}
 use Rattle.refs.proofs.raw_ext.follow.Tie as tie
+use Rattle.refs.proofs.raw_ext.follow.Reads as reads
+use Rattle.names.proofs.name.lend.Reads as lend-reads
+use Rattle.refs.proofs.check.check_call.Reads as check-call-reads
+use Rattle.refs.proofs.check.is_passed.Reads as is-passed-reads
+use Rattle.refs.proofs.raw_ext.follow_to_object.Reads as follow-to-object-reads
+use Rattle.refs.proofs.raw_ext.no_trail.Reads as no-trail-reads
 
 check-call-requires : tie.Need-check-call-requires
 check-call-requires c κs = search needs
@@ -21,10 +27,9 @@ no-trail-requires c κs = search needs
 
 returns : tie.Need-returns
 returns c =
-    followed-stops (snapshot-of (c .before .before .before .before .before .before .before .before .before .args .worktree .now) (if-there (c .before .before .before .before .before .before .before .before .before .args .has-common) (c .before .before .before .before .before .before .before .before .before .args .common .now)) (c .before .before .before .before .before .before .before .before .before .args .packed .now)) (c .before .before .before .before .before .before .before .before .before .args .name .now) (if-there (c .before .before .before .before .before .before .before .before .before .args .has-namespace) (c .before .before .before .before .before .before .before .before .before .args .namespace .now)) (c .before .before .before .check-call .result .gate) _ (c .before .before .before .check-call .ensures) (sym (c .before .before .is-passed .ensures) ∙ not-true _ (c .before .if1 .taken)) _
-
-slice-aggregate-lend : tie.Need-slice-aggregate-lend
-slice-aggregate-lend c = search needs
+    let args = c .before .before .before .before .before .before .before .before .before .args in
+    let call = c .before .before .before .check-call in
+    followed-stops (snapshot-of (args .worktree .now) (if-there (args .has-common) (args .common .now)) (args .packed .now)) (args .name .now) (if-there (args .has-namespace) (args .namespace .now)) (call .result .gate) _ (call .ensures) (sym (c .before .before .is-passed .ensures) ∙ not-true _ (c .before .if1 .taken)) _
 
 lend-requires : tie.Need-lend-requires
 lend-requires c κs = search needs
@@ -32,19 +37,16 @@ lend-requires c κs = search needs
 follow-to-object-requires : tie.Need-follow-to-object-requires
 follow-to-object-requires c κs =
     let args = c .before .before .before .before .before .before .before .before .before .before .before .before .args in
-    let check-call = c .before .before .before .before .before .before .check-call in
-    let namespace = args .namespace .now in
-    let worktree = args .worktree .now in
-    let has-namespace = args .has-namespace in
-    let common = args .common .now in
-    let packed = args .packed .now in
-    let has-common = args .has-common in
-    fit-regions (snapshot-of worktree (if-there has-common common) packed)
-    (gate-passes (call-check (snapshot-of worktree (if-there has-common common) packed) (args .name .now) (if-there has-namespace namespace)) (store-flaw (store id-width (snapshot-of worktree (if-there has-common common) packed))) (expansion (if-there has-namespace namespace)) (check-call .result .gate) _ (check-call .ensures) (sym (c .before .before .before .before .before .is-passed .ensures) ∙ not-false _ (c .before .before .before .before .if1 .left)) .no-flaw)
+    let call = c .before .before .before .before .before .before .check-call in
+    fit-regions (snapshot-of (args .worktree .now) (if-there (args .has-common) (args .common .now)) (args .packed .now))
+    (gate-passes (call-check (snapshot-of (args .worktree .now) (if-there (args .has-common) (args .common .now)) (args .packed .now)) (args .name .now) (if-there (args .has-namespace) (args .namespace .now))) (store-flaw (store id-width (snapshot-of (args .worktree .now) (if-there (args .has-common) (args .common .now)) (args .packed .now)))) (expansion (if-there (args .has-namespace) (args .namespace .now))) (call .result .gate) _ (call .ensures) (sym (c .before .before .before .before .before .is-passed .ensures) ∙ not-false _ (c .before .before .before .before .if1 .left)) .no-flaw)
 
 returns-2 : tie.Need-returns-2
 returns-2 c =
-    followed-passes (snapshot-of (c .before .before .before .before .before .before .before .before .before .before .before .before .before .args .worktree .now) (if-there (c .before .before .before .before .before .before .before .before .before .before .before .before .before .args .has-common) (c .before .before .before .before .before .before .before .before .before .before .before .before .before .args .common .now)) (c .before .before .before .before .before .before .before .before .before .before .before .before .before .args .packed .now)) (c .before .before .before .before .before .before .before .before .before .before .before .before .before .args .name .now) (if-there (c .before .before .before .before .before .before .before .before .before .before .before .before .before .args .has-namespace) (c .before .before .before .before .before .before .before .before .before .before .before .before .before .args .namespace .now)) (c .before .before .before .before .before .before .before .check-call .result .gate) _ (c .before .before .before .before .before .before .before .check-call .ensures) (sym (c .before .before .before .before .before .before .is-passed .ensures) ∙ not-false _ (c .before .before .before .before .before .if1 .left)) _ (rw (c .before .lend .ensures) at (c .follow-to-object .ensures))
+    let args = c .before .before .before .before .before .before .before .before .before .before .before .before .before .args in
+    let call = c .before .before .before .before .before .before .before .check-call in
+    followed-passes (snapshot-of (args .worktree .now) (if-there (args .has-common) (args .common .now)) (args .packed .now)) (args .name .now) (if-there (args .has-namespace) (args .namespace .now)) (call .result .gate) _ (call .ensures) (sym (c .before .before .before .before .before .before .is-passed .ensures) ∙ not-false _ (c .before .before .before .before .before .if1 .left)) _
+    (rw (c .before .lend .ensures) at (c .follow-to-object .ensures))
 
 pub follow-spec : {M : Type 1} → statement M
 follow-spec =
@@ -54,7 +56,6 @@ follow-spec =
     is-passed-requires
     no-trail-requires
     returns
-    slice-aggregate-lend
     lend-requires
     follow-to-object-requires
     returns-2)
