@@ -14,7 +14,11 @@ fn body(file: &Path, name: &str, below: &[String]) -> String {
             assert!(line.ends_with('}'), "{}: a contract of several lines", file.display());
             continue;
         }
-        if line.starts_with("ghost use ") || line.starts_with("pub mod ") || line == "#[no_mangle]" {
+        if line.starts_with("ghost use ") || line.starts_with("pub mod ") {
+            continue;
+        }
+        if line == "#[no_mangle]" {
+            out += "#[inline(never)]\n";
             continue;
         }
         let item = line.strip_prefix("pub ").unwrap_or(line);

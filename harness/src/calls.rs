@@ -32,7 +32,7 @@ pub const TWIN: Calls = Calls {
     fitness: twin::fitness,
     list_open: twin::list_open,
     list_step: twin::list_step,
-    partial_name: twin::cosvint_partial_name,
-    full_name: twin::cosvint_full_name,
-    namespace: twin::cosvint_namespace,
+    partial_name: twin::partial_name,
+    full_name: twin::full_name,
+    namespace: twin::namespace,
 };

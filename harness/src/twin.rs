@@ -24,3 +24,15 @@ pub fn list_open(r: &Regions, e: &Space, state: &mut [u8]) -> u32 {
 pub fn list_step(r: &Regions, state: &mut [u8], out: &mut [u8]) -> u32 {
     cosvint_list_step(r.worktree, r.common, r.has_common, r.packed, state, out)
 }
+
+pub fn partial_name(n: &[u8]) -> u32 {
+    cosvint_partial_name(n)
+}
+
+pub fn full_name(n: &[u8]) -> u32 {
+    cosvint_full_name(n)
+}
+
+pub fn namespace(e: &[u8]) -> u32 {
+    cosvint_namespace(e)
+}

@@ -5,17 +5,16 @@ use mathlib.Core.List.{[], _∷_}
 use mathlib.Core.Option.{none, some}
 use Prim.Native.Nat.{ℕ, suc, _≤_, _<_}
 use native.Mathlib.Omega.{arith}
-use borrow.Author.Tests.{leb-true, le-leb}
+use borrow.Author.Tests.{leb-true}
 use lib.Dec.{eqb}
 use lib.ListN.{length, take, drop, getD, drop-of-length-le, length-drop}
 use lib.Seq.{drop-cons}
 use Rattle.names.specs.Bytes.{Bytes, bytes, if_then_else_, same, starts-with, every, after}
-use Rattle.names.specs.Name.{longest, fits}
+use Rattle.names.specs.Name.{fits}
 use Rattle.names.specs.Means.{if-fits}
 use Rattle.names.specs.WellFormed.{complete}
 use Rattle.names.proofs.Tests.{and-left, none≢some, if-case}
-use Rattle.blocks.specs.Layout.{longest-content}
-use Rattle.blocks.specs.Content.{object, symbolic, Reading, reads, unreadable, is-hex, lower-case, ends-line, skip-spaces, line, target-name-in, begins-hex, read-target, read-id, read}
+use Rattle.blocks.specs.Content.{object, symbolic, reads, unreadable, is-hex, lower-case, ends-line, skip-spaces, line, target-name-in, begins-hex, read-target, read-id, read}
 use Rattle.blocks.specs.Means.{id-in, is-id, parsed, kind-reading, kind-held, within-name}
 use Rattle.blocks.specs.declared.decode.TargetKind.{TargetKind}
 use Rattle.blocks.specs.declared.decode.TargetKind.the-variants.{Object, Symbolic, Refused}
@@ -133,18 +132,3 @@ target-le s =
     let a = spaces-le (after (bytes "ref: ") s) in
     let b = line-le (skip-spaces (after (bytes "ref: ") s)) in
     omega arith
-
--- a name can hold its target
-pub read-held : (width : ℕ) (s : Bytes) → length s ≤ longest-content → within-name (read width s) ≡ read width s
-unfolding read read-target read-id
-read-held width s h = if-case Held (starts-with (bytes "ref: ") s) (λ a. target) (λ a. if-case Held (is-id width s) (λ b. refl) (λ b. refl))
-  where
-    Held : Reading → Type 0
-    Held r = within-name r ≡ r
-
-    short : fits (target-name-in s) ≡ true
-    short = le-leb (length (target-name-in s)) longest (omega (arith, target-le s))
-
-    target : Held (read-target (target-name-in s))
-    target =
-        if-case Held (complete (target-name-in s)) (λ a. rw short) (λ a. if-case Held (same (target-name-in s) (bytes "refs/heads/.invalid")) (λ b. refl) (λ b. refl))

@@ -1,19 +1,18 @@
 -- The entry of a block of a region.
-use mathlib.Core.Path.{_≡_, refl, sym}
+use mathlib.Core.Path.{_≡_}
 use mathlib.Core.Bool.{true, not}
-use mathlib.Core.List.{List, [], _∷_}
+use mathlib.Core.List.{_∷_}
 use mathlib.Core.Option.{none, some}
-use Prim.Native.Nat.{ℕ, zero, suc, _+_, _≤_, _<_}
+use Prim.Native.Nat.{ℕ, _+_, _≤_, _<_}
 use native.Mathlib.Numerals.{add-one}
 use native.Mathlib.Omega.{arith}
 use borrow.Author.Tests.{not-true}
 use lib.ListN.{length, drop, drop-of-length-le}
 use lib.Seq.{drop-cons}
 use Rattle.names.specs.Bytes.{Bytes}
-use Rattle.names.proofs.Tests.{none≢some}
 use Rattle.blocks.specs.Block.{Region, block-name, block-content, sound}
-use Rattle.blocks.specs.Entry.{Entry, damaged, entry, entries}
-use Rattle.blocks.specs.Means.{block-at, block-count, name-within, content-within, taken-entry, first, entry-in}
+use Rattle.blocks.specs.Entry.{damaged, entry, entries}
+use Rattle.blocks.specs.Means.{block-at, block-count, name-within, content-within, taken-entry, entry-in}
 use Rattle.blocks.proofs.Walks.{length-entries, entry-at}
 use Rattle.blocks.proofs.Parts.{name-held, content-held}
 use Rattle.blocks.proofs.Clauses.{lengths-name, lengths-content, sound-lengths}
@@ -49,21 +48,3 @@ module _ (width : ℕ) (r : Region) where
     pub entry-sound : sound width r b ≡ true → entry width r b ≡ taken-entry width b
     unfolding entry
     entry-sound h = rw (h, sound-name h, sound-content h)
-
--- ---- what the entry at i says of the entries from i on
-
-first-none : (l : List Entry) → first l ≡ none → l ≡ []
-first-none [] e = refl
-first-none (a ∷ l) e = none≢some (sym e)
-
-pub rest-none : (l : List Entry) (i : ℕ) → first (drop i l) ≡ none → drop i l ≡ []
-rest-none l i e = first-none (drop i l) e
-
-after-first : (l : List Entry) (i : ℕ) (a : Entry) → first (drop i l) ≡ some a → drop i l ≡ a ∷ drop (suc i) l
-after-first [] zero a e = none≢some e
-after-first [] (suc i) a e = none≢some e
-after-first (b ∷ l) zero a e = let q : b ≡ a = cc in rw q
-after-first (b ∷ l) (suc i) a e = after-first l i a e
-
-pub rest-some : (l : List Entry) (i : ℕ) (a : Entry) → first (drop i l) ≡ some a → drop i l ≡ a ∷ drop (i + 1) l
-rest-some l i a e = rw add-one (after-first l i a e)

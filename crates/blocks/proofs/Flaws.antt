@@ -2,7 +2,8 @@
 use mathlib.Core.Path.{_≡_, refl, sym, _∙_}
 use mathlib.Core.Bool.{Bool, true, false, _&&_, not, false≢true}
 use mathlib.Core.Logic.{_⊎_, ⊎-elim, inl, inr}
-use mathlib.Core.Option.{Option, none, some, Option·map}
+use mathlib.Core.List.{[]}
+use mathlib.Core.Option.{Option, none, some}
 use Prim.Native.Nat.{ℕ, zero, suc, _+_, _-_, _≤_, _<_, Ordering, Ordering·lt, Ordering·eq, Ordering·gt}
 use native.Mathlib.Numerals.{add-one}
 use native.Mathlib.Omega.{arith}
@@ -13,12 +14,13 @@ use Rattle.names.specs.Bytes.{Bytes, order}
 use Rattle.names.specs.Check.{Check}
 use Rattle.names.proofs.Tests.{and-left, and-right, none≢some}
 use Rattle.blocks.specs.Block.{Region, block-kind, layout-right, kind-suits, shape-right, sound}
-use Rattle.blocks.specs.Entry.{name-of, entry-of, entry, first-blocks, blocks, entries}
+use Rattle.blocks.specs.Entry.{name-of, entry-of, entry, entries}
 use Rattle.blocks.specs.Fitness.{Flaw, eight-unless, above, flaw, flaw-or, flaw-from, first-flaw}
-use Rattle.blocks.specs.Snapshot.{or-empty, is-there, or-flaw, store, store-flaw}
+use Rattle.blocks.specs.Snapshot.{Store, or-empty, is-there, or-flaw, store, store-flaw}
 use Rattle.blocks.specs.Means.{block-at, block-count, name-within, content-within, name-before, if-there, snapshot-of, flaw-at}
 use Rattle.blocks.proofs.Walks.{length-entries}
 use Rattle.blocks.proofs.Entries.{entries-at, entry-damaged, entry-sound}
+use Rattle.blocks.proofs.Stores.{entries-if-any, store-is}
 
 -- ---- the name before
 
@@ -150,6 +152,10 @@ module _ (width : ℕ) (r : Region) (s : Bytes) where
         let l : length (entries width r s) ≤ k = omega (arith, length-entries width r s) in
         rw (drop-of-length-le (entries width r s) l)
 
+-- a region without blocks has no flaw
+pub no-blocks-flawless : (width : ℕ) (r : Region) → first-flaw r (entries width r []) ≡ none
+no-blocks-flawless width r = scan-start width r [] ∙ scan-end width r [] 0 (omega arith)
+
 -- ---- three regions
 
 abbrev pub region-flaw : ℕ → Region → Bytes → Option Flaw
@@ -163,12 +169,19 @@ pub or-next : (f g : Option Flaw) → is-there f ≡ false → or-flaw f g ≡ g
 or-next none g h = refl
 or-next (some f) g h = absurd (false≢true (sym h))
 
-entries-if-there : (width : ℕ) (r : Region) (t : Bool) (s : Bytes) → or-empty (Option·map (entries width r) (if-there t s)) ≡ entries width r (or-empty (if-there t s))
-unfolding entries blocks first-blocks
-entries-if-there width r true s = refl
-entries-if-there width r false s = refl
-
 pub three-regions : (width : ℕ) (w c p : Bytes) (t : Bool) → store-flaw (store width (snapshot-of w (if-there t c) p))
     ≡ or-flaw (region-flaw width Region.worktree w) (or-flaw (region-flaw width Region.common (or-empty (if-there t c))) (region-flaw width Region.packed p))
-unfolding store-flaw store
-three-regions width w c p t = rw (entries-if-there width Region.common t c)
+unfolding store-flaw
+three-regions width w c p t = rw (store-is width (snapshot-of w (if-there t c) p), entries-if-any width Region.common (if-there t c))
+
+or-none : (f g : Option Flaw) → or-flaw f g ≡ none → (f ≡ none) × (g ≡ none)
+or-none none g h = (refl, h)
+or-none (some f) g h = none≢some (sym h)
+
+-- a store has no flaw: no region has one
+pub store-flawless : (s : Store) → store-flaw s ≡ none → (first-flaw Region.worktree (s .worktree) ≡ none) × (first-flaw Region.common (or-empty (s .common)) ≡ none) × (first-flaw Region.packed (s .packed) ≡ none)
+unfolding store-flaw
+store-flawless s h =
+    let a = or-none (first-flaw Region.worktree (s .worktree)) _ h in
+    let b = or-none (first-flaw Region.common (or-empty (s .common))) _ (a .1) in
+    (a .0, b .0, b .1)

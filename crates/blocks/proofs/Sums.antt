@@ -11,8 +11,8 @@ use lib.Dec.{eqb}
 use lib.ListN.{length, take, drop, getD, length-take, length-drop}
 use lib.Seq.{take-suc, take-add, drop-drop}
 use Rattle.names.specs.Bytes.{Bytes, every}
-use Rattle.names.specs.Name.{longest}
 use Rattle.names.proofs.Tests.{and-left, and-right}
+use Rattle.names.proofs.Walks.{every-more}
 use Rattle.blocks.specs.Layout.{zero-at, name-at, content-at, sum-at}
 use Rattle.blocks.specs.Block.{between, name-length, content-length, block-name, block-content, is-zero, unused-zero, weighted}
 use Rattle.blocks.specs.Means.{name-within, content-within, Within}
@@ -38,11 +38,12 @@ product-le w x hw hx =
 
 -- bytes that are 0 add nothing
 zeros-sum : (k : ℕ) (s : Bytes) → every is-zero s ≡ true → weighted k s ≡ 0
-unfolding weighted every
+unfolding weighted
 zeros-sum k [] h = refl
 zeros-sum k (x ∷ s) h =
-    let e = eqb-true x 0 (and-left (eqb x 0) _ h) in
-    rw (e, zeros-sum (suc k) s (and-right (eqb x 0) _ h)) (omega arith)
+    let both = rw (every-more is-zero x s) at h in
+    let e = eqb-true x 0 (and-left (eqb x 0) _ both) in
+    rw (e, zeros-sum (suc k) s (and-right (eqb x 0) _ both)) (omega arith)
 
 -- from i to j, and from there to k
 sum-split : (b : Bytes) (i j k : ℕ) → i ≤ j → j ≤ k → j ≤ length b → weighted i (between b i k) ≡ weighted i (between b i j) + weighted j (between b j k)
@@ -51,16 +52,6 @@ sum-split b i j k p q l =
     let n : length (take (j - i) (drop i b)) ≡ j - i = simp (length-take, length-drop) (omega arith) in
     let o : i + (j - i) ≡ j = omega arith in
     rw (m, take-add (j - i) (k - j) (drop i b), drop-drop (j - i) i b, o, weighted-append i (take (j - i) (drop i b)) (take (k - j) (drop j b)), n, o)
-
--- name and content as parts of the block
-module _ (b : Bytes) (w : Within b) (n : Bytes) where
-  pub name-short : n ≡ name-within b → length n ≤ longest
-  unfolding block-name
-  name-short e = rw (e, name-held b (w .name), length-take) (omega (arith, w .name))
-
-  pub content-short : n ≡ content-within b → length n ≤ longest
-  unfolding block-content
-  content-short e = rw (e, content-held b (w .content), length-take) (omega (arith, w .content))
 
 -- only what the header, the name and the content hold counts, where the rest is 0
 module _ (b : Bytes) (w : Within b) (z : unused-zero b ≡ true) where

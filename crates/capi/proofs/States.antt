@@ -1,49 +1,92 @@
 -- A listing's state as bytes, and what openings and steps give.
-use mathlib.Core.Path.{_≡_, refl, sym, _∙_}
-use Prim.Native.Nat.{ℕ, _*_, _≤_, _<_}
+use mathlib.Core.Path.{_≡_, refl, ap, sym, _∙_}
+use Prim.Native.Nat.{ℕ, zero, suc, _+_, _-_, _*_, _≤_, _<_}
 use native.Mathlib.Omega.{arith}
-use mathlib.Core.Bool.{true, false, not, false≢true}
+use mathlib.Core.Bool.{Bool, true, false, not, false≢true}
+use mathlib.Core.List.{[], _∷_, _++_}
 use mathlib.Core.Option.{none, some}
 use lib.Dec.{leb, eqb}
-use lib.ListN.{length, take, length-append, length-take}
-use lib.Seq.{take-all}
+use lib.ListN.{length, take, drop, replicate, length-append, length-take}
 use borrow.Author.Tests.{le-leb, lt-leb}
 use Rattle.names.specs.Bytes.{Bytes}
 use Rattle.names.specs.Name.{longest}
 use Rattle.names.specs.Check.{Check, Checked, checked}
 use Rattle.names.specs.Means.{held}
+use Rattle.names.proofs.Parts.{held-is}
 use Rattle.blocks.specs.Snapshot.{Snapshot, is-there}
 use Rattle.blocks.specs.Means.{id-width}
+use Rattle.refs.specs.Listing.{Positions}
 use Rattle.refs.specs.Run.{State, Step, step}
+use Rattle.output.specs.Pasted.{pasted}
+use Rattle.output.proofs.Pastes.{pasted-apart}
 use Rattle.capi.specs.Report.{check-number, answer-report, too-short}
-use Rattle.capi.specs.Layout.{word-size, word, bit, padded, field, name-field, report-size, report-bytes, expansion-at, state-size, state-bytes, state-from}
+use Rattle.capi.specs.Layout.{word-size, word, bit, padded, field, report-size, report-bytes, expansion-at, state-size, number-bytes, state-bytes, state-from}
+use Rattle.capi.specs.declared.listing.Made.{Made}
 use Rattle.capi.specs.Output.{opening-number, opening-state, OpenGiven, step-number, step-state, step-output, StepGiven}
-use Rattle.capi.specs.Promises.{Wrote, Reported}
-use Rattle.capi.proofs.Fields.{low-first-length, padded-length, wrote-both, in-front}
+use Rattle.capi.specs.Promises.{Wrote, Reported, StepMade, next-state}
+use Rattle.capi.proofs.Fields.{low-first-length, padded-length, padded-whole, wrote-both, in-front}
 use Rattle.capi.proofs.Calls.{report-length}
 
 -- ---- writing and reading
 
-pub wrote-state : (s : State) {b m n o p q a : Bytes} → Wrote b 0 (word (s .at .worktree)) m → Wrote m word-size (word (s .at .common)) n
-    → Wrote n (2 * word-size) (word (s .at .packed)) o → Wrote o (3 * word-size) (word (bit (s .ended))) p
-    → Wrote p (4 * word-size) (word (length (s .expansion))) q → Wrote q expansion-at (padded longest (s .expansion)) a → Wrote b 0 (state-bytes s) a
+module _ (at : Positions) (ended : Bool) (k : ℕ) where
+  pub wrote-numbers : {b m n o p a : Bytes} → Wrote b 0 (word (at .worktree)) m → Wrote m word-size (word (at .common)) n → Wrote n (2 * word-size) (word (at .packed)) o
+      → Wrote o (3 * word-size) (word (bit ended)) p → Wrote p (4 * word-size) (word k) a → Wrote b 0 (number-bytes at ended k) a
+  wrote-numbers g h i j l =
+      let two = wrote-both g h (simp low-first-length (omega arith)) in
+      let three = wrote-both two i (simp (length-append, low-first-length) (omega arith)) in
+      let four = wrote-both three j (simp (length-append, low-first-length) (omega arith)) in
+      wrote-both four l (simp (length-append, low-first-length) (omega arith))
+
+  numbers-length : length (number-bytes at ended k) ≡ expansion-at
+  numbers-length = simp (length-append, low-first-length) (omega arith)
+
+pub wrote-state : (s : State) {b m a : Bytes} → Wrote b 0 (number-bytes (s .at) (s .ended) (length (s .expansion))) m → Wrote m expansion-at (padded longest (s .expansion)) a
+    → Wrote b 0 (state-bytes s) a
 unfolding state-bytes
-wrote-state s i j k l m n =
-    let two = wrote-both i j (simp low-first-length (omega arith)) in
-    let three = wrote-both two k (simp (length-append, low-first-length) (omega arith)) in
-    let four = wrote-both three l (simp (length-append, low-first-length) (omega arith)) in
-    let five = wrote-both four m (simp (length-append, low-first-length) (omega arith)) in
-    wrote-both five n (simp (length-append, low-first-length) (omega arith))
+wrote-state s g h = wrote-both g h (omega (arith, numbers-length (s .at) (s .ended) (length (s .expansion))))
 
--- a part that is no longer than a name, put into one
-pub filled-part : (b s : Bytes) (k l : ℕ) (n : Bytes) → held n k ≡ take longest s → s ≡ held (take longest b) l → held n k ≡ take l (take longest b)
-unfolding held
-filled-part b s k l n e h = e ∙ take-all longest s (rw h (simp length-take (omega arith))) ∙ h
+module _ (b : Bytes) where
+  pub read-positions : (w c p : ℕ) → w ≡ field 0 b → c ≡ field 1 b → p ≡ field 2 b → record { worktree = w; common = c; packed = p } ≡ state-from b .at
+  unfolding state-from
+  read-positions w c p g h i = rw (g, h, i) refl
 
-pub read-state : (b : Bytes) (w c p e l : ℕ) (n : Bytes) → w ≡ field 0 b → c ≡ field 1 b → p ≡ field 2 b → e ≡ field 3 b → l ≡ field 4 b
-    → n ≡ name-field l b → record { at = record { worktree = w; common = c; packed = p }; ended = not (eqb e 0); expansion = n } ≡ state-from b
+  pub read-ended : (e : ℕ) → e ≡ field 3 b → not (eqb e 0) ≡ state-from b .ended
+  unfolding state-from
+  read-ended e h = rw h refl
+
+  pub read-expansion : (l : ℕ) (n : Bytes) → l ≡ field 4 b → n ≡ held (take longest (drop expansion-at b)) l → n ≡ state-from b .expansion
+  unfolding state-from
+  read-expansion l n h k = rw (k, h) (held-is (take longest (drop expansion-at b)) (field 4 b))
+
+  pub expansion-short : length (state-from b .expansion) ≤ longest
+  unfolding state-from
+  expansion-short = simp length-take (omega arith)
+
+take-again : (n m : ℕ) (s : Bytes) → take (length (take n (take m s))) s ≡ take n (take m s)
+take-again zero m s = refl
+take-again (suc n) zero s = refl
+take-again (suc n) (suc m) [] = refl
+take-again (suc n) (suc m) (x ∷ s) = ap (λ (l : Bytes). x ∷ l) (take-again n m s)
+
+expansion-again : (b : Bytes) → take (length (state-from b .expansion)) (drop expansion-at b) ≡ state-from b .expansion
 unfolding state-from
-read-state b w c p e l n hw hc hp he hl hn = rw (hn, hw, hc, hp, he, hl) refl
+expansion-again b = take-again (field 4 b) longest (drop expansion-at b)
+
+-- the numbers are written, and zeros behind the expansion, which stays
+pub wrote-next : (at : Positions) (ended : Bool) {b m a : Bytes} → state-size ≤ length b → Wrote b 0 (number-bytes at ended (length (state-from b .expansion))) m
+    → a ≡ pasted m (expansion-at + length (state-from b .expansion)) (replicate (longest - length (state-from b .expansion)) 0)
+    → Wrote b 0 (state-bytes (record { at = at; ended = ended; expansion = state-from b .expansion })) a
+unfolding state-bytes
+wrote-next at ended {b} {m} {a} h g e =
+    let x = state-from b .expansion in
+    let zeros : Bytes = replicate (longest - length x) 0 in
+    let front = number-bytes at ended (length x) in
+    let size = numbers-length at ended (length x) in
+    let there : take (length x) (drop expansion-at b) ≡ x = expansion-again b in
+    let room : length front + length x ≤ length b = omega (arith, size, h, expansion-short b) in
+    let apart : pasted (pasted b 0 front) (expansion-at + length x) zeros ≡ pasted b 0 (front ++ (x ++ zeros)) = rw (size, there) at (pasted-apart b front (length x) zeros room) in
+    record { bytes = e ∙ rw (g .bytes, ← padded-whole longest x (expansion-short b)) apart }
 
 -- ---- room
 
@@ -91,16 +134,25 @@ step-output-short d state out h k =
     let b : leb report-size (length out) ≡ false = lt-leb report-size (length out) k in
     record { number = rw (a, b) refl; next = rw (a, b) refl; output = rw (a, b) refl }
 
+-- a step from the fields of a state
+pub step-made : (s : Snapshot) (b e : Bytes) (at : Positions) (ended : Bool) (d : Step) (m : Made) {out after : Bytes}
+    → d ≡ step id-width s (record { at = at; ended = ended; expansion = e }) → at ≡ state-from b .at → ended ≡ state-from b .ended → e ≡ state-from b .expansion
+    → Reported out (answer-report (d .answer)) after (m .number) → next-state e m ≡ d .next → StepMade (step id-width s (state-from b)) (state-from b .expansion) out after m
+step-made s b e at ended d m {out} {after} h i j k r n =
+    let whole : d ≡ step id-width s (state-from b) = h ∙ rw (i, j, k) refl in
+    rw (← whole, ← k) (record { report = r; next = n })
+
 -- a step that has room
-pub step-given : (s : Snapshot) (st : State) {q : Step} {state out state-after out-after : Bytes} {n : ℕ} → state-size ≤ length state → report-size ≤ length out
-    → q ≡ step id-width s st → st ≡ state-from state → Wrote state 0 (state-bytes (q .next)) state-after → Reported out (answer-report (q .answer)) out-after n
-    → StepGiven (step id-width s (state-from state)) state out state-after out-after n
+pub step-given : (d : Step) {m : Made} {state out state-after out-after : Bytes} → state-size ≤ length state → report-size ≤ length out
+    → StepMade d (state-from state .expansion) out out-after m → Wrote state 0 (state-bytes (next-state (state-from state .expansion) m)) state-after
+    → StepGiven d state out state-after out-after (m .number)
 unfolding step-number step-state step-output
-step-given s st {q} {state} {out} {state-after} {out-after} {n} h k e f p r =
+step-given d {m} {state} {out} {state-after} {out-after} h k s p =
     let a : leb state-size (length state) ≡ true = le-leb state-size (length state) h in
     let b : leb report-size (length out) ≡ true = le-leb report-size (length out) k in
+    let r = s .report in
     record {
-      number = rw (a, b, ← f, ← e) (r .number);
-      next = rw (a, b, ← f, ← e) (in-front (state-bytes (q .next)) (state-length (q .next)) h p);
-      output = rw (a, b, ← f, ← e) (in-front (report-bytes (answer-report (q .answer))) (report-length (answer-report (q .answer))) k (r .bytes));
+      number = rw (a, b) (r .number);
+      next = rw (a, b) (in-front (state-bytes (d .next)) (state-length (d .next)) h (rw (s .next) at p));
+      output = rw (a, b) (in-front (report-bytes (answer-report (d .answer))) (report-length (answer-report (d .answer))) k (r .bytes));
     }

@@ -1,5 +1,5 @@
 -- A listing whose state goes with the caller, as bytes, is the listing.
-use mathlib.Core.Path.{_≡_, refl, ap}
+use mathlib.Core.Path.{_≡_, ap}
 use Prim.Native.Nat.{ℕ, zero, suc, _≤_, _<_}
 use native.Mathlib.Omega.{arith}
 use mathlib.Core.List.{List, _∷_, _++_, map}
@@ -14,6 +14,7 @@ use Rattle.blocks.specs.Snapshot.{Snapshot}
 use Rattle.blocks.specs.Means.{id-width}
 use Rattle.refs.specs.Run.{State, step, run, open-listing}
 use Rattle.refs.proofs.ListOpens.{opened-start}
+use Rattle.refs.proofs.Moves.{run-none, run-more}
 use Rattle.refs.proofs.Positions.{AtMost, step-at-most, step-expansion}
 use Rattle.capi.specs.Report.{Report, answer-report}
 use Rattle.capi.specs.Layout.{word-size, state-size, state-bytes}
@@ -48,11 +49,11 @@ over-again d st b = ap (λ (l : Bytes). state-bytes d ++ l) (drop-at (state-byte
 
 -- the reports of n steps from a state in a lent buffer are those of its run
 pub run-reports : (n : ℕ) (s : Snapshot) (st : State) (b : Bytes) → Reached st → reports n s (state-over st b) ≡ map answer-report (run id-width s n st .answers)
-unfolding reports run
-run-reports zero s st b r = refl
+unfolding reports
+run-reports zero s st b r = rw (run-none id-width s st)
 run-reports (suc n) s st b r =
     let d = step id-width s st in
-    rw (state-kept st (drop state-size b) (held st r), over-again (d .next) st b)
+    rw (run-more id-width s n st, state-kept st (drop state-size b) (held st r), over-again (d .next) st b)
     (ap (λ (l : List Report). answer-report (d .answer) ∷ l) (run-reports n s (d .next) b (next-reached s st r)))
 
 -- an opening's state

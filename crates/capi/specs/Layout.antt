@@ -10,6 +10,7 @@ use Rattle.names.specs.Name.{longest}
 use Rattle.blocks.specs.Content.{Target, object, symbolic}
 use Rattle.blocks.specs.Means.{id-width}
 use Rattle.refs.specs.Answer.{Reference}
+use Rattle.refs.specs.Listing.{Positions}
 use Rattle.refs.specs.Run.{State}
 use Rattle.capi.specs.Report.{Report}
 
@@ -112,15 +113,13 @@ expansion-at = 5 * word-size
 abbrev pub state-size : ℕ
 state-size = expansion-at + longest
 
--- three positions, whether ended, the expansion's length; the expansion
+-- three positions, whether ended, the expansion's length
+abbrev pub number-bytes : Positions → Bool → ℕ → Bytes
+number-bytes at ended length = word (at .worktree) ++ word (at .common) ++ word (at .packed) ++ word (bit ended) ++ word length
+
+-- the numbers, and the expansion
 unfoldable pub state-bytes : State → Bytes
-state-bytes s =
-    word (s .at .worktree)
-    ++ word (s .at .common)
-    ++ word (s .at .packed)
-    ++ word (bit (s .ended))
-    ++ word (length (s .expansion))
-    ++ padded longest (s .expansion)
+state-bytes s = number-bytes (s .at) (s .ended) (length (s .expansion)) ++ padded longest (s .expansion)
 
 -- the number in field k of a state
 abbrev pub field : ℕ → Bytes → ℕ

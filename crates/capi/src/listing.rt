@@ -4,11 +4,11 @@ ghost use Prim.Native.Nat.{_≤_};
 ghost use lib.ListN.{length};
 ghost use Rattle.blocks.specs.Means.{id-width, if-there, snapshot-of};
 ghost use Rattle.refs.specs.Run.{open-listing, step};
-ghost use Rattle.refs.specs.Means.{state-of, listed-with, opening-check};
+ghost use Rattle.refs.specs.Means.{positions-of, listed-with, advanced, opening-check};
 ghost use Rattle.capi.specs.Report.{answer-report, check-number};
-ghost use Rattle.capi.specs.Layout.{state-size, state-bytes, state-from};
+ghost use Rattle.capi.specs.Layout.{state-size, number-bytes, state-bytes, state-from};
 ghost use Rattle.capi.specs.Output.{OpenGiven, StepGiven};
-ghost use Rattle.capi.specs.Promises.{Wrote, Reported, reference-with};
+ghost use Rattle.capi.specs.Promises.{Wrote, Reported, reference-with, StepMade};
 use crate::layout::WORD_SIZE;
 use crate::layout::put_padded;
 use crate::layout::put_word;
@@ -17,22 +17,28 @@ use crate::report::NOTHING;
 use crate::report::REPORT_SIZE;
 use crate::report::TOO_SHORT;
 use crate::report::bit;
-use crate::report::kind_of;
 use crate::report::put_number;
 use crate::report::put_numbered;
+use blocks::fitness::or_empty;
+use blocks::parse::id_of;
+use blocks::parse::second_id_of;
+use names::bytes::without;
 use names::name::LONGEST;
-use names::name::empty;
-use names::name::fill;
 use names::name::lend;
 use names::name::refusal_number;
+use output::clear;
+use refs::overlay_iter::Advanced;
 use refs::overlay_iter::Listed;
-use refs::overlay_iter::Listing;
 use refs::overlay_iter::Opening;
+use refs::overlay_iter::Positions;
+use refs::overlay_iter::advance;
 use refs::overlay_iter::is_opened;
 use refs::overlay_iter::open;
-use refs::overlay_iter::step;
+use refs::place::content_in;
+use refs::place::name_in;
 use refs::raw::Kind;
 use refs::raw::reason_number;
+use refs::raw::target_part;
 
 // Where each field of a state begins.
 const WORKTREE_AT: usize = 0;
@@ -49,44 +55,60 @@ const EXPANSION_AT: usize = LENGTH_AT + WORD_SIZE;
 
 pub const STATE_SIZE: usize = EXPANSION_AT + LONGEST;
 
-// A state by its parts, as a reference.
-fn put_state(
-    state: &mut [u8],
-    worktree: usize,
-    common: usize,
-    packed: usize,
-    ended: bool,
-    expansion: &[u8],
-)
-    ensures { λ u. ⌜ Wrote (now (state .entry)) 0 (state-bytes (record { at = record { worktree = worktree; common = common; packed = packed }; ended = ended; expansion = now (expansion .entry) })) (now (state .exit)) ⌝ }
+// The numbers in front of the expansion.
+fn put_numbers(state: &mut [u8], at: Positions, ended: bool, length: usize)
+    ensures { λ u. ⌜ Wrote (now (state .entry)) 0 (number-bytes (positions-of at) «ended» length) (now (state .exit)) ⌝ }
 {
-    put_word(state, WORKTREE_AT, worktree as u64);
-    put_word(state, COMMON_AT, common as u64);
-    put_word(state, PACKED_AT, packed as u64);
+    put_word(state, WORKTREE_AT, at.worktree as u64);
+    put_word(state, COMMON_AT, at.common as u64);
+    put_word(state, PACKED_AT, at.packed as u64);
     put_word(state, ENDED_AT, bit(ended));
-    put_word(state, LENGTH_AT, expansion.len() as u64);
+    put_word(state, LENGTH_AT, length as u64);
+}
+
+// A state by its parts, as a reference.
+fn put_state(state: &mut [u8], at: Positions, ended: bool, expansion: &[u8])
+    ensures { λ u. ⌜ Wrote (now (state .entry)) 0 (state-bytes (record { at = positions-of at; ended = ended; expansion = now (expansion .entry) })) (now (state .exit)) ⌝ }
+{
+    put_numbers(state, at, ended, expansion.len());
     put_padded(state, EXPANSION_AT, LONGEST, expansion);
 }
 
-// The state that the bytes stand for: a length over 250 counts as 250.
-fn state_of(state: &[u8]) -> Listing
+fn positions_in(state: &[u8]) -> Positions
     requires { ⌜ state-size ≤ length (now state) ⌝ }
-    ensures { λ s. ⌜ state-of s ≡ state-from (now (state .entry)) ⌝ }
+    ensures { λ at. ⌜ positions-of at ≡ state-from (now (state .entry)) .at ⌝ }
 {
-    let length = word_at(state, LENGTH_AT) as usize;
-    let mut expansion = empty();
-    let len = fill(
-        &mut expansion.bytes,
-        lend(&state[EXPANSION_AT..STATE_SIZE], length),
-    );
-    expansion.len = len;
-    Listing {
+    Positions {
         worktree: word_at(state, WORKTREE_AT) as usize,
         common: word_at(state, COMMON_AT) as usize,
         packed: word_at(state, PACKED_AT) as usize,
-        ended: word_at(state, ENDED_AT) != 0,
-        expansion,
     }
+}
+
+fn ended_in(state: &[u8]) -> bool
+    requires { ⌜ state-size ≤ length (now state) ⌝ }
+    ensures { λ b. ⌜ b ≡ state-from (now (state .entry)) .ended ⌝ }
+{
+    word_at(state, ENDED_AT) != 0
+}
+
+// A length over 250 counts as 250.
+fn expansion_in(state: &[u8]) -> &[u8]
+    requires { ⌜ state-size ≤ length (now state) ⌝ }
+    ensures { λ e. ⌜ now e ≡ state-from (now (state .entry)) .expansion ⌝ }
+{
+    let length = word_at(state, LENGTH_AT) as usize;
+    lend(&state[EXPANSION_AT..STATE_SIZE], length)
+}
+
+// A state with its expansion as before: what is there of it stays, and zeros follow.
+fn put_next(state: &mut [u8], at: Positions, ended: bool)
+    requires { ⌜ state-size ≤ length (now state) ⌝ }
+    ensures { λ u. ⌜ Wrote (now (state .entry)) 0 (state-bytes (record { at = positions-of at; ended = ended; expansion = state-from (now (state .entry)) .expansion })) (now (state .exit)) ⌝ }
+{
+    let length = expansion_in(state).len();
+    put_numbers(state, at, ended, length);
+    clear(state, EXPANSION_AT + length, LONGEST - length);
 }
 
 fn opening_number(o: Opening) -> u32
@@ -128,13 +150,13 @@ pub extern "C" fn cosvint_list_open<'a>(
     if !is_opened(opening) {
         return opening_number(opening);
     }
+    let opened = o.state;
+    let at = opened.at;
     put_state(
         state,
-        o.state.worktree,
-        o.state.common,
-        o.state.packed,
-        o.state.ended,
-        lend(&o.state.expansion.bytes, o.state.expansion.len),
+        at,
+        opened.ended,
+        lend(&opened.expansion.bytes, opened.expansion.len),
     );
     0
 }
@@ -161,6 +183,74 @@ fn put_listed<'a>(
     }
 }
 
+// The same, its reference lent from the block that is handed out.
+fn put_advanced<'a>(
+    out: &mut [u8],
+    a: Advanced,
+    worktree: &'a [u8],
+    common: &'a [u8],
+    packed: &'a [u8],
+    e: &[u8],
+) -> u32
+    ensures { λ n. ⌜ Reported (now (out .entry)) (answer-report (advanced (now (e .entry)) (now (worktree .entry)) (now (common .entry)) (now (packed .entry)) a .answer)) (now (out .exit)) n ⌝ }
+{
+    let answer = a.answer;
+    let given = a.given;
+    let kind = a.kind;
+    let name = name_in(worktree, common, packed, given);
+    let file = content_in(worktree, common, packed, given);
+    let id = id_of(file);
+    let peeled = second_id_of(file);
+    put_listed(
+        out,
+        answer,
+        without(name, e),
+        kind,
+        &id.digits,
+        without(target_part(kind, file), e),
+        a.has_peeled,
+        &peeled.digits,
+    )
+}
+
+// What a step leaves beside its report: its number, and the next state but for the expansion, which stays.
+struct Made {
+    number: u32,
+    next: Positions,
+    ended: bool,
+}
+
+// A step's report.
+fn put_step<'a>(
+    out: &mut [u8],
+    state: &[u8],
+    worktree: &'a [u8],
+    common: &'a [u8],
+    has_common: bool,
+    packed: &'a [u8],
+) -> Made
+    requires { ⌜ state-size ≤ length (now state) ⌝ }
+    ensures { λ m. ⌜ StepMade (step id-width (snapshot-of (now (worktree .entry)) (if-there «has_common» (now (common .entry))) (now (packed .entry))) (state-from (now (state .entry)))) (state-from (now (state .entry)) .expansion) (now (out .entry)) (now (out .exit)) m ⌝ }
+{
+    let e = expansion_in(state);
+    let a = advance(
+        positions_in(state),
+        ended_in(state),
+        e,
+        worktree,
+        common,
+        has_common,
+        packed,
+    );
+    let number = put_advanced(out, a, worktree, or_empty(common, has_common), packed, e);
+    let next = a.next;
+    Made {
+        number,
+        next,
+        ended: a.ended,
+    }
+}
+
 // One step from the state, which becomes the next: 0 with a reference, 100 where the listing is ended, else 1, 2, or 6 to 12.
 #[no_mangle]
 pub extern "C" fn cosvint_list_step<'a>(
@@ -179,21 +269,8 @@ pub extern "C" fn cosvint_list_step<'a>(
     if out.len() < REPORT_SIZE {
         return TOO_SHORT;
     }
-    let s = step(state_of(state), worktree, common, has_common, packed);
-    put_state(
-        state,
-        s.next.worktree,
-        s.next.common,
-        s.next.packed,
-        s.next.ended,
-        lend(&s.next.expansion.bytes, s.next.expansion.len),
-    );
-    let answer = s.answer;
-    let name = lend(&s.reference.name.bytes, s.reference.name.len);
-    let kind = kind_of(s.reference);
-    let id = &s.reference.id.digits;
-    let target = lend(&s.reference.target.bytes, s.reference.target.len);
-    let has_peeled = s.reference.has_peeled;
-    let peeled = &s.reference.peeled.digits;
-    put_listed(out, answer, name, kind, id, target, has_peeled, peeled)
+    let m = put_step(out, state, worktree, common, has_common, packed);
+    let next = m.next;
+    put_next(state, next, m.ended);
+    m.number
 }

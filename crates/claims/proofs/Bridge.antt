@@ -1,5 +1,5 @@
 -- From bytes to entries: what a region's blocks of a name are, its entries are.
-use mathlib.Core.Path.{_≡_, refl}
+use mathlib.Core.Path.{_≡_, refl, sym, _∙_}
 use Prim.Native.Nat.{ℕ}
 use mathlib.Core.List.{List, [], _∷_, map}
 use mathlib.Core.Bool.{Bool, true, false, _&&_}
@@ -9,12 +9,14 @@ use Rattle.names.specs.Route.{shared}
 use Rattle.names.proofs.Tests.{if-eq, none≢some}
 use Rattle.names.proofs.Orders.{same-eq}
 use Rattle.blocks.specs.Block.{Region, block-kind, block-name, block-content}
-use Rattle.blocks.specs.Entry.{Entry, name-of, entry-of, entry, first-blocks, blocks, entries}
+use Rattle.blocks.specs.Entry.{Entry, name-of, entry-of, entry, blocks, entries}
 use Rattle.blocks.proofs.Sorted.{Sorted, sorted-∷}
+use Rattle.blocks.proofs.Stores.{entries-are, entries-if-any, store-is}
 use Rattle.blocks.proofs.Raw.{Raw, raw, IsRecord, packed-entry}
 use Rattle.blocks.specs.Snapshot.{Snapshot, store, or-empty, is-there, common-or, region-at}
 use Rattle.refs.specs.Answer.{bears, block-of}
 use Rattle.claims.specs.Demand3.{is-named, Held, held-by, bearing, held-in, some-held, is-held}
+use Rattle.refs.proofs.Clauses.{block-none, block-more}
 use Rattle.refs.proofs.Blocks.{bears-eq}
 use Rattle.claims.proofs.Runs.{Ordered}
 use Rattle.claims.proofs.StoreCut.{Records, held}
@@ -28,9 +30,9 @@ first-entry width n (h ∷ l) = some (entry-of width (h .kind) n (h .content))
 
 module _ (width : ℕ) (r : Region) where
   blocks-entry : (n : Bytes) (l : List Bytes) {b : Option Bytes} → Sorted b (map (entry width r) l) → block-of n (map (entry width r) l) ≡ first-entry width n (bearing n l)
-  unfolding block-of bearing
-  blocks-entry n [] s = refl
-  blocks-entry n (x ∷ l) (sorted-∷ m e a s) = rw e (step (raw width r x m e) (blocks-entry n l s))
+  unfolding bearing
+  blocks-entry n [] s = rw (block-none n)
+  blocks-entry n (x ∷ l) (sorted-∷ m e a s) = rw (block-more n (entry width r x) (map (entry width r) l), e) (step (raw width r x m e) (blocks-entry n l s))
     where
       go : (b : Bool) → same (block-name x) n ≡ b → entry width r x ≡ entry-of width (block-kind x) (block-name x) (block-content x) → block-of n (map (entry width r) l) ≡ first-entry width n (bearing n l)
           → (if b then some (entry width r x) else block-of n (map (entry width r) l)) ≡ first-entry width n (if b then held-by x ∷ bearing n l else bearing n l)
@@ -42,26 +44,22 @@ module _ (width : ℕ) (r : Region) where
       step w ih = rw (w .kinds, ← (w .named)) (go (same (block-name x) n) refl (w .is) ih)
 
   region-entry : (n s : Bytes) → Sorted none (entries width r s) → block-of n (entries width r s) ≡ first-entry width n (held-in s n)
-  unfolding entries
-  region-entry n s h = blocks-entry n (blocks s) h
+  region-entry n s h = rw (entries-are width r s) (blocks-entry n (blocks s) (rw (entries-are width r s) at h))
 
 -- what a packed region has of a name is a record
 records-in : (width : ℕ) (n : Bytes) (f : Entry) (l : List Bytes) → block-of n (map (entry width Region.packed) l) ≡ some f → IsRecord f
-unfolding block-of
-records-in width n f [] h = none≢some h
+records-in width n f [] h = none≢some (sym (block-none n) ∙ h)
 records-in width n f (x ∷ l) h =
-    if-eq (bears n (name-of (entry width Region.packed x))) h
+    if-eq (bears n (name-of (entry width Region.packed x))) (sym (block-more n (entry width Region.packed x) (map (entry width Region.packed) l)) ∙ h)
     (λ b k. let g : entry width Region.packed x ≡ f = cc in rw (← g) (packed-entry width x n (bears-eq n (name-of (entry width Region.packed x)) b))) (λ b k. records-in width n f l k)
 
 pub records-of : (width : ℕ) (s : Snapshot) → Records (store width s)
-unfolding store entries
-records-of width s n f h = records-in width n f (blocks (s .packed)) h
+records-of width s n f h = records-in width n f (blocks (s .packed)) (rw (store-is width s, entries-are width Region.packed (s .packed)) at h)
 
 -- ---- three regions
 
 pub common-there : (width : ℕ) (s : Snapshot) → is-there (store width s .common) ≡ is-there (s .common)
-unfolding store
-common-there width s = go (s .common)
+common-there width s = rw (store-is width s) (go (s .common))
   where
     go : (o : Option Bytes) → is-there (Option·map (entries width Region.common) o) ≡ is-there o
     go none = refl
@@ -69,30 +67,23 @@ common-there width s = go (s .common)
 
 module _ (width : ℕ) (s : Snapshot) (o : Ordered (store width s)) (n : Bytes) where
   pub in-worktree : block-of n (store width s .worktree) ≡ first-entry width n (held-in (s .worktree) n)
-  unfolding store
-  in-worktree = region-entry width Region.worktree n (s .worktree) (o .worktree)
+  in-worktree = rw (store-is width s) (region-entry width Region.worktree n (s .worktree) (rw (store-is width s) at (o .worktree)))
 
   pub in-common : block-of n (or-empty (store width s .common)) ≡ first-entry width n (held-in (or-empty (s .common)) n)
-  unfolding store block-of blocks first-blocks bearing
-  in-common = go (s .common) (o .common)
-    where
-      go : (c : Option Bytes) → Sorted none (or-empty (Option·map (entries width Region.common) c))
-          → block-of n (or-empty (Option·map (entries width Region.common) c)) ≡ first-entry width n (held-in (or-empty c) n)
-      go none h = refl
-      go (some c) h = region-entry width Region.common n c h
+  in-common =
+      rw (store-is width s, entries-if-any width Region.common (s .common))
+      (region-entry width Region.common n (or-empty (s .common)) (rw (store-is width s, entries-if-any width Region.common (s .common)) at (o .common)))
 
   pub in-packed : block-of n (store width s .packed) ≡ first-entry width n (held-in (s .packed) n)
-  unfolding store
-  in-packed = region-entry width Region.packed n (s .packed) (o .packed)
+  in-packed = rw (store-is width s) (region-entry width Region.packed n (s .packed) (rw (store-is width s) at (o .packed)))
 
   -- where a shared name is read
   pub in-shared : block-of n (region-at shared (store width s)) ≡ first-entry width n (held-in (region-at shared s) n)
-  unfolding store
-  in-shared = go (s .common) (o .common)
+  in-shared = rw (store-is width s) (go (s .common) (rw (store-is width s) at (o .common)))
     where
       go : (c : Option Bytes) → Sorted none (or-empty (Option·map (entries width Region.common) c))
           → block-of n (common-or (Option·map (entries width Region.common) c) (entries width Region.worktree (s .worktree))) ≡ first-entry width n (held-in (common-or c (s .worktree)) n)
-      go none h = in-worktree
+      go none h = rw (store-is width s) at in-worktree
       go (some c) h = region-entry width Region.common n c h
 
   there : (l : List Held) → is-there (first-entry width n l) ≡ some-held l

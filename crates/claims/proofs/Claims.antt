@@ -8,7 +8,8 @@ use Rattle.names.specs.Namespace.{expansion, names-check}
 use Rattle.names.proofs.Rows.{names-none}
 use Rattle.blocks.specs.Snapshot.{Snapshot, size-check, Fit}
 use Rattle.refs.specs.Follow.{following}
-use Rattle.refs.specs.Run.{start, open-listing, run-opened, listing, answers-of}
+use Rattle.refs.specs.Run.{start, open-listing, run-opened, answers-of}
+use Rattle.refs.proofs.Clauses.{open-is, listing-is}
 use Rattle.claims.specs.Compared.{Rising}
 use Rattle.claims.specs.Demand3.{ListingCut, FollowingCut, NamesRise, Demand3}
 use Rattle.claims.proofs.Runs.{names-rise}
@@ -18,8 +19,7 @@ use Rattle.claims.proofs.Premises.{store-cut}
 
 -- the opening passes on a snapshot fit for search
 pub opens : (width : ℕ) (s : Snapshot) → Fit width s → open-listing s none ≡ gives (start [])
-unfolding open-listing
-opens width s h = rw (h .sizes, names-none)
+opens width s h = rw (open-is s none, h .sizes, names-none)
 
 pub listing-cut : ListingCut
 listing-cut width s t c = listing-in width s t (c .fit) (c .fit′) none (store-cut width s t c)
@@ -28,8 +28,7 @@ pub following-cut : FollowingCut
 following-cut width s t c = following-in width s t (c .fit) (c .fit′) none (store-cut width s t c)
 
 pub names-rise-strictly : NamesRise
-unfolding listing open-listing
-names-rise-strictly width s h namespace n = go (size-check s or-else names-check none namespace)
+names-rise-strictly width s h namespace n = rw (listing-is s namespace width n) (go (size-check s or-else names-check none namespace))
   where
     go : (k : Check) → Rising none (answers-of (run-opened width s n (checked k (start (expansion namespace)))))
     go none = names-rise width (expansion namespace) (Without (expansion namespace)) (scope-honest width (expansion namespace)) (without-rise (expansion namespace)) s h n

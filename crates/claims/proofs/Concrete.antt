@@ -12,6 +12,7 @@ use Rattle.blocks.specs.Block.{block-name}
 use Rattle.blocks.specs.Entry.{blocks}
 use Rattle.blocks.specs.Snapshot.{Snapshot, or-empty}
 use Rattle.refs.specs.Follow.{among}
+use Rattle.refs.proofs.Clauses.{among-none, among-next}
 use Rattle.claims.specs.Demand3.{is-named, held-by, bearing, held-in, is-held, Flat, Agree}
 
 -- ---- lists of names
@@ -25,9 +26,8 @@ AllOf P [] = Unit {0}
 AllOf P (n ∷ l) = P n × AllOf P l
 
 among-append : (n : Bytes) (l m : List Bytes) → among n (l ++ m) ≡ (among n l || among n m)
-unfolding among
-among-append n [] m = refl
-among-append n (x ∷ l) m = go (same x n) (among-append n l m)
+among-append n [] m = rw (among-none n)
+among-append n (x ∷ l) m = rw (among-next n x (l ++ m), among-next n x l) (go (same x n) (among-append n l m))
   where
     go : (b : Bool) → among n (l ++ m) ≡ (among n l || among n m) → (b || among n (l ++ m)) ≡ (b || among n l || among n m)
     go true h = refl
@@ -35,15 +35,14 @@ among-append n (x ∷ l) m = go (same x n) (among-append n l m)
 
 -- what passes for all of a list passes for each of it
 pub of-all : (f : Bytes → Bool) (l : List Bytes) → all-of f l ≡ true → (n : Bytes) → among n l ≡ true → f n ≡ true
-unfolding all-of among
-of-all f [] h n a = not-both a refl
+unfolding all-of
+of-all f [] h n a = not-both a (among-none n)
 of-all f (m ∷ l) h n a =
-    or-eq (same m n) _ a (λ q. subst (λ (x : Bytes). f x ≡ true) (same-eq m n q) (and-left (f m) _ h)) (of-all f l (and-right (f m) _ h) n)
+    or-eq (same m n) _ (sym (among-next n m l) ∙ a) (λ q. subst (λ (x : Bytes). f x ≡ true) (same-eq m n q) (and-left (f m) _ h)) (of-all f l (and-right (f m) _ h) n)
 
 pub of-each : (P : Bytes → Type 0) (l : List Bytes) → AllOf P l → (n : Bytes) → among n l ≡ true → P n
-unfolding among
-of-each P [] h n a = not-both a refl
-of-each P (m ∷ l) h n a = or-eq (same m n) _ a (λ q. subst P (same-eq m n q) (h .0)) (of-each P l (h .1) n)
+of-each P [] h n a = not-both a (among-none n)
+of-each P (m ∷ l) h n a = or-eq (same m n) _ (sym (among-next n m l) ∙ a) (λ q. subst P (same-eq m n q) (h .0)) (of-each P l (h .1) n)
 
 -- ---- the names that blocks bear
 
@@ -55,14 +54,14 @@ unfoldable pub names-of : Snapshot → List Bytes
 names-of s = names-in (blocks (s .worktree)) ++ (names-in (blocks (or-empty (s .common))) ++ names-in (blocks (s .packed)))
 
 bearing-none : (n : Bytes) (l : List Bytes) → among n (names-in l) ≡ false → bearing n l ≡ []
-unfolding names-in among bearing
+unfolding names-in bearing
 bearing-none n [] h = refl
 bearing-none n (b ∷ l) h = go (is-named b) h (bearing-none n l)
   where
     go : (k : Bool) → among n (if k then block-name b ∷ names-in l else names-in l) ≡ false → (among n (names-in l) ≡ false → bearing n l ≡ [])
         → (if k && same (block-name b) n then held-by b ∷ bearing n l else bearing n l) ≡ []
     go false h ih = ih h
-    go true h ih = let f = or-false (same (block-name b) n) _ h in rw (f .0) (ih (f .1))
+    go true h ih = let f = or-false (same (block-name b) n) _ (sym (among-next n (block-name b) (names-in l)) ∙ h) in rw (f .0) (ih (f .1))
 
 -- a name that no block bears
 record Absent (s : Snapshot) (n : Bytes) : Type 0 where

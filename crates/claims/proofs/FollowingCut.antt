@@ -10,6 +10,7 @@ use Rattle.blocks.specs.Snapshot.{Store}
 use Rattle.refs.specs.Answer.{Reference, Answer, nothing, found, refused}
 use Rattle.refs.specs.Search.{search}
 use Rattle.refs.specs.Follow.{stopped, among, on-target, on-answer, follow-from, follow-answer, following}
+use Rattle.refs.proofs.Clauses.{follow-last, follow-more, following-is}
 use Rattle.claims.specs.Compared.{Outcome, followed-outcome}
 use Rattle.claims.proofs.StoreCut.{StoreCut}
 use Rattle.claims.proofs.Clash.{kept}
@@ -23,9 +24,8 @@ module _ (width : ℕ) (e : Bytes) (s t : Store) (cut : StoreCut width e s t) wh
 
   -- an object target ends following alike, whatever was seen and whatever the reference's name
   object-ends : (left : ℕ) (l l′ : List Bytes) (r r′ : Reference) (id : Bytes) → r .target ≡ object id → r′ .target ≡ object id → goes s left l r ≡ goes t left l′ r′
-  unfolding follow-from
-  object-ends zero l l′ r r′ id i i′ = refl
-  object-ends (suc left) l l′ r r′ id i i′ = rw (i, i′)
+  object-ends zero l l′ r r′ id i i′ = rw (follow-last width e s l r, follow-last width e t l′ r′)
+  object-ends (suc left) l l′ r r′ id i i′ = rw (follow-more width e s left l r, follow-more width e t left l′ r′, i, i′)
 
   -- from one reference: the steps left are alike, by what the search of its target answers
   module _ (left : ℕ) (seen : List Bytes) (r : Reference)
@@ -58,9 +58,9 @@ module _ (width : ℕ) (e : Bytes) (s t : Store) (cut : StoreCut width e s t) wh
         (honest-search width e s (kept width e s (cut .once) (cut .expansion)) (cut .records) n) (h n refl)
 
   follow-same : (left : ℕ) (seen : List Bytes) (r : Reference) → ((n : Bytes) → r .target ≡ symbolic n → Seen width e s seen) → goes s left seen r ≡ goes t left seen r
-  unfolding follow-from
-  follow-same zero seen r h = refl
-  follow-same (suc left) seen r h = target-same left seen r (λ x g. follow-same left (x .name ∷ seen) x g) (r .target) h
+  follow-same zero seen r h = rw (follow-last width e s seen r, follow-last width e t seen r)
+  follow-same (suc left) seen r h =
+      rw (follow-more width e s left seen r, follow-more width e t left seen r) (target-same left seen r (λ x g. follow-same left (x .name ∷ seen) x g) (r .target) h)
 
   start-match : (a a′ : Answer) → Match width e s a a′ → followed-outcome (follow-answer width e s a) ≡ followed-outcome (follow-answer width e t a′)
   start-match a a′ (inl i) = rw (← i) (start-same a)
@@ -73,5 +73,5 @@ module _ (width : ℕ) (e : Bytes) (s t : Store) (cut : StoreCut width e s t) wh
 
   -- in any namespace
   pub same-following : (x : Bytes) → followed-outcome (following width e s x) ≡ followed-outcome (following width e t x)
-  unfolding following
-  same-following x = start-match (search width e s x .answer) (search width e t x .answer) (search-match width e s t cut x)
+  same-following x =
+      rw (following-is width e s x, following-is width e t x) (start-match (search width e s x .answer) (search width e t x .answer) (search-match width e s t cut x))

@@ -14,6 +14,7 @@ use Rattle.blocks.specs.Entry.{Entry, damaged, failed, loose, unread, packed-re
 use Rattle.blocks.specs.Snapshot.{Store, or-empty, is-there, common-or, region-at}
 use Rattle.refs.specs.Answer.{Answer, found, strip-answer, block-of}
 use Rattle.refs.specs.View.{shown-if, see, Scope, worktree-shows, common-shows, packed-shows}
+use Rattle.refs.proofs.Clauses.{block-none}
 use Rattle.refs.proofs.Blocks.{block-bears}
 use Rattle.claims.proofs.Waits.{shows, said}
 use Rattle.claims.proofs.Least.{_or_}
@@ -66,12 +67,11 @@ module _ (width : ℕ) (c : Scope) where
 
   opens-split : (s : Store) (x : Bytes) → opens s x
       ≡ over (is-there (s .common)) (told (worktree-shows c) x (s .worktree)) or told (keep-base (is-there (s .common))) x (region-at shared s) or told (packed-shows c) x (s .packed)
-  unfolding block-of
   opens-split s x = go (s .common)
     where
       go : (k : Option (List Entry)) → told (worktree-shows c) x (s .worktree) or told (common-shows c) x (or-empty k) or told (packed-shows c) x (s .packed)
           ≡ over (is-there k) (told (worktree-shows c) x (s .worktree)) or told (keep-base (is-there k)) x (common-or k (s .worktree)) or told (packed-shows c) x (s .packed)
-      go none = refl
+      go none = rw (block-none x)
       go (some k) = refl
 
   -- a shared well-formed name is kept in all regions or in none

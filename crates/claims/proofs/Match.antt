@@ -21,13 +21,13 @@ use Rattle.blocks.specs.Entry.{Entry, loose}
 use Rattle.blocks.specs.Snapshot.{Store, region-at}
 use Rattle.refs.specs.Answer.{Reference, Answer, nothing, found, block-of}
 use Rattle.refs.specs.Search.{clashes, region-of, path-of, file-of, record-of, entry-for, answer-of, lookup}
+use Rattle.refs.proofs.Clauses.{file-is, entry-is, lookup-is}
 use Rattle.claims.proofs.StoreCut.{Alike, Holds, as-loose, as-packed, Differs, Each, StoreCut, cut-sym}
 use Rattle.claims.proofs.Clash.{alike-region, kept, clash-absent}
 
 -- the file of a name whose path is a shared name under refs/
 file-path : (e : Bytes) (s : Store) (c : Bytes) → under-refs (route c .path) ≡ true → is-private (route c .path) ≡ false → file-of e s c ≡ block-of (path-of e c) (region-at shared s)
-unfolding file-of
-file-path e s c u v = rw (placed-path (placed c) u v .0)
+file-path e s c u v = rw (file-is e s c, placed-path (placed c) u v .0)
 
 -- the file of such a name itself
 file-own : (e : Bytes) (s : Store) (n : Bytes) → under-refs n ≡ true → is-private n ≡ false → file-of e s n ≡ block-of (e ++ n) (region-at shared s)
@@ -74,15 +74,14 @@ module _ (width : ℕ) (e : Bytes) where
   module _ (s : Store) (k : Candidate) (id : Bytes) (u : under-refs (route (k .name) .path) ≡ true) (v : is-private (route (k .name) .path) ≡ false) where
     answered : ((f : Entry) → file-of e s (k .name) ≡ some f → strip e (k .name) ≡ k .name) → Fair k → remote-head (route (k .name) .path) ≡ false
         → clashing s k ≡ false → Holds width e s (route (k .name) .path) id → Answered s k id
-    unfolding entry-for
     answered keep fair w n (as-loose c h r) =
         let f = file-path e s (k .name) u v ∙ h in
-        record { reference = record { name = k .name; target = object id; peeled = none }; is = rw (n, f, r, keep _ f); target = refl; named = inl refl }
+        record { reference = record { name = k .name; target = object id; peeled = none }; is = rw (entry-is e s k, n, f, r, keep _ f); target = refl; named = inl refl }
     answered keep fair w n (as-packed t p h hb hi) =
         let f = file-path e s (k .name) u v ∙ h in
         record {
           reference = record { name = route (k .name) .path; target = object id; peeled = Option·map lower-case p };
-          is = rw (n, f, placed-path (placed (k .name)) u v .1, is-sought fair, hb, hi, strip-append e (route (k .name) .path));
+          is = rw (entry-is e s k, n, f, placed-path (placed (k .name)) u v .1, is-sought fair, hb, hi, strip-append e (route (k .name) .path));
           target = refl;
           named = inr refl;
         }
@@ -110,8 +109,7 @@ module _ (width : ℕ) (e : Bytes) where
     p = route (k .name) .path
 
     clash-self : (s : Store) → clashing s k ≡ true → entry-for e s k ≡ none
-    unfolding entry-for
-    clash-self s n = rw n
+    clash-self s n = rw (entry-is e s k, n)
 
     differs-match : Differs width e s t p → clashing s k ≡ false → clashing t k ≡ false → Match width e s (tried s k) (tried t k)
     differs-match d n n′ =
@@ -143,9 +141,8 @@ module _ (width : ℕ) (e : Bytes) where
             rw f at (a .in-packed)
 
     alike-match : Alike s t (e ++ p) → clashing s k ≡ false → clashing t k ≡ false → entry-for e s k ≡ entry-for e t k
-    unfolding entry-for file-of
     alike-match a n n′ =
-        rw (n, n′, alike-region s t (cut .same-common) (e ++ p) a (route (k .name) .base), packed-alike a (k .packed) (packed-name (k .name)) refl)
+        rw (entry-is e s k, entry-is e t k, n, n′, file-is e s (k .name), file-is e t (k .name), alike-region s t (cut .same-common) (e ++ p) a (route (k .name) .base), packed-alike a (k .packed) (packed-name (k .name)) refl)
 
     tried-match : (b b′ : Bool) → clashing s k ≡ b → clashing t k ≡ b′ → Each width e s t (e ++ p) → Match width e s (tried s k) (tried t k)
     tried-match false false n n′ (inl a) = inl (ap (answer-of width e (k .name)) (alike-match a n n′))
@@ -154,8 +151,7 @@ module _ (width : ℕ) (e : Bytes) where
     tried-match false true n n′ i = inl (ap (answer-of width e (k .name)) (clash-absent width e t s (cut-sym width e s t cut) k n′ ∙ sym (clash-self t n′)))
 
     pub lookup-match : Match width e s (lookup width e s k) (lookup width e t k)
-    unfolding lookup
-    lookup-match = go (fits (k .name))
+    lookup-match = rw (lookup-is width e s k, lookup-is width e t k) (go (fits (k .name)))
       where
         go : (b : Bool) → Match width e s (if b then tried s k else nothing) (if b then tried t k else nothing)
         go true = tried-match (clashing s k) (clashing t k) refl refl (cut .each (e ++ p))

@@ -1,5 +1,5 @@
 -- A symbolic answer is the loose file of its own name; so every name that following has seen is that of such a file.
-use mathlib.Core.Path.{_≡_, refl}
+use mathlib.Core.Path.{_≡_, refl, sym, _∙_}
 use Prim.Native.Nat.{ℕ}
 use native.Mathlib.Omega.{arith}
 use mathlib.Core.List.{List, [], _∷_}
@@ -16,8 +16,9 @@ use Rattle.blocks.specs.Entry.{Entry, damaged, failed, loose, unread, packed-re
 use Rattle.blocks.proofs.Raw.{IsRecord}
 use Rattle.blocks.specs.Snapshot.{Store}
 use Rattle.refs.specs.Answer.{Answer, nothing, found, refused, reading-says, strip-answer}
-use Rattle.refs.specs.Search.{clashes, deciding, region-of, path-of, file-of, record-of, entry-for, answer-of, Searched, or-next, lookup, first-answer, search}
+use Rattle.refs.specs.Search.{clashes, deciding, region-of, path-of, file-of, record-of, answer-of, Searched, or-next, lookup, first-answer, search}
 use Rattle.refs.specs.Follow.{among}
+use Rattle.refs.proofs.Clauses.{entry-is, lookup-is, first-none, first-more, search-first, among-none, among-next}
 use Rattle.claims.proofs.StoreCut.{Records}
 use Rattle.claims.proofs.Match.{Points}
 
@@ -63,11 +64,11 @@ module _ (width : ℕ) (e : Bytes) (s : Store) where
     honest-deciding c false (some f) r h i = honest-file c f h (keep c f h)
 
     honest-lookup : (k : Candidate) → Honest (lookup width e s k)
-    unfolding lookup entry-for
     honest-lookup k =
-        if-case Honest (fits (k .name))
+        rw (lookup-is width e s k, entry-is e s k)
+        (if-case Honest (fits (k .name))
         (λ _. honest-deciding (k .name) (clashes (path-of e (k .name)) (region-of s (k .name))) (file-of e s (k .name)) (record-of e s (k .packed) (packed-name (k .name))) refl (record-is (k .packed) (packed-name (k .name))))
-        (λ _. tt)
+        (λ _. tt))
 
     honest-next : (a : Answer) (r : Searched) → Honest a → Honest (r .answer) → Honest (or-next a r .answer)
     honest-next nothing r h g = g
@@ -75,25 +76,21 @@ module _ (width : ℕ) (e : Bytes) (s : Store) where
     honest-next (refused k) r h g = tt
 
     honest-first : (l : List Candidate) → Honest (first-answer width e s l .answer)
-    unfolding first-answer
-    honest-first [] = tt
-    honest-first (k ∷ l) = honest-next (lookup width e s k) (first-answer width e s l) (honest-lookup k) (honest-first l)
+    honest-first [] = rw (first-none width e s) tt
+    honest-first (k ∷ l) = rw (first-more width e s k l) (honest-next (lookup width e s k) (first-answer width e s l) (honest-lookup k) (honest-first l))
 
     pub honest-search : (x : Bytes) → Honest (search width e s x .answer)
-    unfolding search
-    honest-search x = honest-first (candidates x)
+    honest-search x = rw (search-first width e s x) (honest-first (candidates x))
 
   -- every name seen is that of a loose symbolic reference
   abbrev pub Seen : List Bytes → Type 0
   Seen l = (n : Bytes) → among n l ≡ true → Points width e s n
 
   pub seen-none : Seen []
-  unfolding among
-  seen-none n h = absurd (false≢true h)
+  seen-none n h = absurd (false≢true (sym (among-none n) ∙ h))
 
   pub seen-more : (m : Bytes) (l : List Bytes) → Points width e s m → Seen l → Seen (m ∷ l)
-  unfolding among
-  seen-more m l p h n g = or-eq (same m n) (among n l) g (λ d. rw (← same-eq m n d) p) (λ d. h n d)
+  seen-more m l p h n g = or-eq (same m n) (among n l) (sym (among-next n m l) ∙ g) (λ d. rw (← same-eq m n d) p) (λ d. h n d)
 
   pub not-seen : (n : Bytes) (l : List Bytes) → (Points width e s n → ⊥) → Seen l → among n l ≡ false
   not-seen n l u h = false-of _ (λ i. u (h n i))

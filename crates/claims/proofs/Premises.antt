@@ -10,7 +10,8 @@ use Rattle.names.specs.Name.{under-refs, directory}
 use Rattle.names.specs.Category.{is-private}
 use Rattle.names.specs.Route.{shared, route}
 use Rattle.names.proofs.Placed.{refs-begins-r, placed, placed-own, placed-path}
-use Rattle.blocks.specs.Entry.{peeled-in, entry-of}
+use Rattle.blocks.specs.Entry.{peeled-in}
+use Rattle.blocks.proofs.Parts.{taken-loose, taken-record}
 use Rattle.blocks.specs.Snapshot.{Snapshot, store}
 use Rattle.claims.specs.Demand3.{Flat, Agree, LooseId, Has, Differ, Cut}
 use Rattle.claims.proofs.Runs.{Ordered, ordered}
@@ -23,17 +24,15 @@ shared-base n u v = let f : route n .path ≡ n = placed-own (placed n) (refs-be
 
 module _ (width : ℕ) (s : Snapshot) (o : Ordered (store width s)) (n id : Bytes) (base : route n .base ≡ shared) where
   holds-loose : LooseId width s n id → Holds width [] (store width s) n id
-  unfolding entry-of
   holds-loose l =
       let q = l .there in
-      as-loose (l .content) (in-shared width s o n ∙ rw (rw base at q)) (l .decodes)
+      as-loose (l .content) (in-shared width s o n ∙ rw (rw base at q) (sym (taken-loose width 1 n (l .content) refl))) (l .decodes)
 
   holds-of : Has width s n id → Holds width [] (store width s) n id
-  unfolding entry-of
   holds-of (Has.loose l v) = holds-loose l
   holds-of (Has.over-stale l stale p) = holds-loose l
   holds-of (Has.packed p v) =
-      as-packed (take width (p .content)) (peeled-in width (p .content)) (in-shared width s o n ∙ rw (rw base at v)) (in-packed width s o n ∙ rw (p .there)) (p .target)
+      as-packed (take width (p .content)) (peeled-in width (p .content)) (in-shared width s o n ∙ rw (rw base at v)) (in-packed width s o n ∙ rw (p .there) (sym (taken-record width 4 n (p .content) refl))) (p .target)
 
 module _ (width : ℕ) (s t : Snapshot) (c : Cut width s t) where
   abbrev os : Ordered (store width s)

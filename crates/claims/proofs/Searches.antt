@@ -9,6 +9,7 @@ use Rattle.names.proofs.Sought.{AllFair, candidates-fair}
 use Rattle.blocks.specs.Snapshot.{Store}
 use Rattle.refs.specs.Answer.{Answer, nothing, found, refused}
 use Rattle.refs.specs.Search.{Searched, or-next, lookup, first-answer, search}
+use Rattle.refs.proofs.Clauses.{first-none, first-more, search-first}
 use Rattle.claims.proofs.StoreCut.{StoreCut}
 use Rattle.claims.proofs.Match.{Match, lookup-match}
 
@@ -35,11 +36,10 @@ module _ (width : ℕ) (e : Bytes) (s t : Store) (cut : StoreCut width e s t) wh
       })
 
   first-match : (l : List Candidate) → AllFair l → Match width e s (first-answer width e s l .answer) (first-answer width e t l .answer)
-  unfolding first-answer
-  first-match [] f = inl refl
+  first-match [] f = rw (first-none width e s, first-none width e t) (inl refl)
   first-match (k ∷ l) f =
-      next-match (lookup width e s k) (lookup width e t k) (first-answer width e s l) (first-answer width e t l) (lookup-match width e s t cut k (f .0)) (first-match l (f .1))
+      rw (first-more width e s k l, first-more width e t k l)
+      (next-match (lookup width e s k) (lookup width e t k) (first-answer width e s l) (first-answer width e t l) (lookup-match width e s t cut k (f .0)) (first-match l (f .1)))
 
   pub search-match : (x : Bytes) → Match width e s (search width e s x .answer) (search width e t x .answer)
-  unfolding search
-  search-match x = first-match (candidates x) (candidates-fair x)
+  search-match x = rw (search-first width e s x, search-first width e t x) (first-match (candidates x) (candidates-fair x))

@@ -4,11 +4,11 @@ use mathlib.Core.Bool.{Bool, true, false, _&&_}
 use mathlib.Core.List.{[], _∷_, _++_}
 use Prim.Native.Nat.{ℕ}
 use native.Mathlib.Omega.{arith}
-use Rattle.names.specs.Bytes.{Bytes, starts-with, strip}
+use Rattle.names.specs.Bytes.{Bytes, bytes, starts-with, strip}
 use Rattle.names.specs.WellFormed.{well-formed}
 use Rattle.names.proofs.Tests.{and-left}
 use Rattle.names.proofs.Orders.{_≺_, order-append}
-use Rattle.names.proofs.Prefix.{starts-split, starts-trans, starts-self}
+use Rattle.names.proofs.Prefix.{starts-trans, starts-append, starts-self, strip-split}
 use Rattle.blocks.specs.Content.{Reading, reads, unreadable, read}
 use Rattle.blocks.specs.Entry.{damaged, failed, loose, unread, packed-record}
 use Rattle.refs.specs.Answer.{Answer, reading-says, strip-answer}
@@ -30,8 +30,7 @@ module _ (width : ℕ) (e : Bytes) (keep : Bytes → Bool) (front : (x : Bytes) 
   kept-sight true x a h = offered (h refl)
 
   stripped : (x : Bytes) → keep x ≡ true → Without e x (strip e x)
-  unfolding strip
-  stripped x k = rw (front x k) (sym (starts-split e x (front x k)))
+  stripped x k = sym (strip-split e x (front x k))
 
   reading-named : (x : Bytes) (r : Reading) → keep x ≡ true → Named (Without e) x (strip-answer e (reading-says x r))
   reading-named x (reads t) k = stripped x k
@@ -59,6 +58,5 @@ view-honest width c h =
     }
 
 pub scope-honest : (width : ℕ) (e : Bytes) → Honest (Without e) (view width (scope e))
-unfolding starts-with
-scope-honest width [] = view-honest width (scope []) (record { loose-front = refl; packed-front = refl })
+scope-honest width [] = view-honest width (scope []) (record { loose-front = starts-append [] (bytes "refs/"); packed-front = starts-self [] })
 scope-honest width (b ∷ e) = view-honest width (scope (b ∷ e)) (record { loose-front = starts-self (b ∷ e); packed-front = starts-self (b ∷ e) })

@@ -13,6 +13,7 @@ use Rattle.refs.specs.Answer.{Answer, block-of}
 use Rattle.refs.specs.View.{Seen, passed-over, fault, shown}
 use Rattle.refs.specs.Listing.{Waiting, none-left, named, first-seen, first-waiting, peek}
 use Rattle.claims.specs.Compared.{compared}
+use Rattle.refs.proofs.Clauses.{block-none, block-more, waiting-none, waiting-more}
 use Rattle.refs.proofs.Blocks.{absent}
 use Rattle.claims.proofs.Tables.{Table, beyond, Named, Starts}
 
@@ -56,8 +57,7 @@ module _ (Shown : Bytes → Bytes → Type 0) where
 
     -- an entry that is passed over adds nothing
     skip : (e : Entry) (l : List Entry) (x : Bytes) → name-of e ≡ some x → Sorted (some x) l → see e ≡ passed-over → (y : Bytes) → region see l y ≡ region see (e ∷ l) y
-    unfolding block-of
-    skip e l x n s k y = rw n (go (order x y) refl)
+    skip e l x n s k y = rw (block-more y e l, n) (go (order x y) refl)
       where
         go : (o : Ordering) → order x y ≡ o → region see l y ≡ said see (if isEq o then some e else block-of y l)
         go Ordering·lt c = refl
@@ -66,17 +66,15 @@ module _ (Shown : Bytes → Bytes → Type 0) where
 
     -- one that is not starts the table
     start : (e : Entry) (l : List Entry) (x : Bytes) (a : Answer) → name-of e ≡ some x → Sorted (some x) l → see e ≡ shown x a → Named Shown x a → Starts Shown (region see (e ∷ l)) x a
-    unfolding block-of
     start e l x a n s k m =
         record {
-          here = rw (n, order-refl x, k);
+          here = rw (block-more x e l, n, order-refl x, k);
           named = m;
-          before = λ y h. let c : order x y ≡ Ordering·gt = order-flip y x ∙ ap flip h in rw (n, c) (gone x l s y (gt-not-lt x y c));
+          before = λ y h. let c : order x y ≡ Ordering·gt = order-flip y x ∙ ap flip h in rw (block-more y e l, n, c) (gone x l s y (gt-not-lt x y c));
         }
 
     after : (e : Entry) (l : List Entry) (x : Bytes) → name-of e ≡ some x → Sorted (some x) l → (y : Bytes) → region see l y ≡ beyond (order x y) (region see (e ∷ l) y)
-    unfolding block-of
-    after e l x n s y = rw n (go (order x y) refl)
+    after e l x n s y = rw (block-more y e l, n) (go (order x y) refl)
       where
         go : (o : Ordering) → order x y ≡ o → region see l y ≡ beyond o (said see (if isEq o then some e else block-of y l))
         go Ordering·lt c = refl
@@ -84,9 +82,8 @@ module _ (Shown : Bytes → Bytes → Type 0) where
         go Ordering·gt c = gone x l s y (gt-not-lt x y c)
 
     first-waits : {b : Option Bytes} {l : List Entry} → Sorted b l → (i : ℕ) → drop i r ≡ l → Waits (region see l) (λ j. region see (drop j r)) (first-waiting see l i)
-    unfolding first-waiting block-of
-    first-waits sorted-[] i d = empty (λ y. refl)
-    first-waits (sorted-∷ {e = e} {l = l} x n a s) i d = go (see e) refl (faithful e x n) (first-waits s (suc i) (drop-tail i r d))
+    first-waits sorted-[] i d = rw (waiting-none see i) (empty (λ y. rw (block-none y)))
+    first-waits (sorted-∷ {e = e} {l = l} x n a s) i d = rw (waiting-more see i e l) (go (see e) refl (faithful e x n) (first-waits s (suc i) (drop-tail i r d)))
       where
         go : (k : Seen) → see e ≡ k → Sight x k → Waits (region see l) (λ j. region see (drop j r)) (first-waiting see l (suc i))
             → Waits (region see (e ∷ l)) (λ j. region see (drop j r)) (first-seen k (suc i) (first-waiting see l (suc i)))

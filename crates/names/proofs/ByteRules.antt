@@ -9,10 +9,10 @@ use mathlib.Core.Bool.{Bool, true, false, _&&_, _||_, not, and-assoc, and-comm, 
 use lib.Dec.{eqb, leb}
 use lib.ListN.{length, take, drop, getD, drop-of-length-le}
 use lib.Seq.{drop-cons}
-use borrow.Author.Tests.{eqb-true, eqb-false, ne-eqb, leb-true, leb-false, le-ltb, not-true}
+use borrow.Author.Tests.{eq-eqb, eqb-true, eqb-false, ne-eqb, leb-true, leb-false, le-ltb, not-true}
 use Rattle.names.specs.Bytes.{Bytes, bytes, slash, order, same, starts-with, ends-with, contains, every}
 use Rattle.names.specs.WellFormed.{not-empty, no-dot-begins, no-lock-ends, allowed, slashes-right, well-formed}
-use Rattle.names.specs.Promises.{rules-after, fits-after, before, plain, parting, sure, all-sure}
+use Rattle.names.specs.Promises.{rules-after, fits-after, lock-ends, before, plain, parting, sure, all-sure}
 use Rattle.names.proofs.Tests.{and-left, and-right, false-of, in-range, not-both, or-eq}
 use Rattle.names.proofs.Parts.{tail-part}
 use Rattle.names.proofs.Orders.{eqb-comm, compare-refl, same-eq, same-nothing}
@@ -121,9 +121,23 @@ module _ (s : Bytes) where
       (not (ends-with (bytes ".") s))
       (not (contains (bytes "@{") s))
 
-  pub well-formed-is : well-formed s ≡ (not-empty s && rules-after slash s && not (same s (bytes "@")))
+  well-formed-is : well-formed s ≡ (not-empty s && rules-after slash s && not (same s (bytes "@")))
   unfolding well-formed
   well-formed-is = rw behind-slash (simp and-assoc)
+
+pub nothing-formed : (s : Bytes) → length s ≡ 0 → false ≡ well-formed s
+nothing-formed s h = rw (well-formed-is s, same-nothing s, eq-eqb (length s) 0 h)
+
+-- by the code's test of every byte
+module _ (s : Bytes) (r : Bool) (e : r ≡ rules-after slash (take (length s - 0) (drop 0 s))) where
+  all-fit : r ≡ rules-after slash s
+  all-fit = rw (tail-part s 0) at e
+
+  pub some-unfit : r ≡ false → false ≡ well-formed s
+  some-unfit h = rw (well-formed-is s, ← all-fit, h, and-false)
+
+  pub all-but-at : (length s ≡ 0 → ⊥) → r ≡ true → well-formed s ≡ not (same s (bytes "@"))
+  all-but-at n h = rw (well-formed-is s, same-nothing s, ne-eqb (length s) 0 n, ← all-fit, h)
 
 -- ---- what a rule asks of a byte
 
@@ -134,15 +148,15 @@ same-one : (a : ℕ) (s : Bytes) → same (a ∷ s) (a ∷ []) ≡ eqb (length (
 unfolding order
 same-one a s = rw (compare-refl a, same-nothing s, compare·suc-suc (length s) 0)
 
-reorder : (a b c d e : Bool) → (a && b && c && d && e) ≡ (a && d && e && b && c)
+reorder : (a b c d e : Bool) → (a && not b && not c && d && e) ≡ (a && d && e && not (b || c))
 reorder false b c d e = refl
-reorder true b c d e = rw (and-assoc (b && c) d e, and-comm (b && c) (d && e)) (sym (and-assoc (d && e) b c))
+reorder true b c d e = rw (not-or b c, and-assoc (not b && not c) d e, and-comm (not b && not c) (d && e))
 
 module _ (p : ℕ) where
-  dot-is : (s : Bytes) → fits-after p (46 ∷ s) ≡ (not (eqb p slash) && not (eqb p 46) && not (eqb (length (46 ∷ s)) 1) && not (same (46 ∷ s) (bytes ".lock")) && not (starts-with (bytes ".lock/") (46 ∷ s)))
+  dot-is : (s : Bytes) → fits-after p (46 ∷ s) ≡ (not (eqb p slash) && not (eqb p 46) && not (eqb (length (46 ∷ s)) 1) && not (lock-ends (46 ∷ s)))
   unfolding fits-after starts-with contains
   dot-is s = simp (eqb-comm p slash, eqb-comm p 46, ← same-one 46 s, same-other slash 46 s [] (λ e. omega arith), and-false, and-true)
-      (reorder (not (eqb slash p)) (not (same (46 ∷ s) (bytes ".lock"))) (not (starts-with (bytes ".lock/") (46 ∷ s))) (not (eqb 46 p)) (not (same (46 ∷ s) (bytes "."))))
+      (reorder (not (eqb slash p)) (same (46 ∷ s) (bytes ".lock")) (starts-with (bytes ".lock/") (46 ∷ s)) (not (eqb 46 p)) (not (same (46 ∷ s) (bytes "."))))
 
   slash-is : (s : Bytes) → fits-after p (slash ∷ s) ≡ (not (eqb p slash) && not (eqb (length (slash ∷ s)) 1))
   unfolding fits-after starts-with contains
@@ -223,8 +237,8 @@ first-cons [] b l h = absurd (not-suc-le-zero l)
 first-cons (a ∷ t) b l h = rw h refl
 
 module _ (p : ℕ) (t : Bytes) (l : 0 < length t) where
-  pub dot-at : getD t 0 0 ≡ 46 → fits-after p t ≡ (not (eqb p slash) && not (eqb p 46) && not (eqb (length t) 1) && not (same t (bytes ".lock")) && not (starts-with (bytes ".lock/") t))
-  dot-at h = subst (λ (u : Bytes). fits-after p u ≡ (not (eqb p slash) && not (eqb p 46) && not (eqb (length u) 1) && not (same u (bytes ".lock")) && not (starts-with (bytes ".lock/") u))) (sym (first-cons t 46 l h)) (dot-is p (drop 1 t))
+  pub dot-at : getD t 0 0 ≡ 46 → fits-after p t ≡ (not (eqb p slash) && not (eqb p 46) && not (eqb (length t) 1) && not (lock-ends t))
+  dot-at h = subst (λ (u : Bytes). fits-after p u ≡ (not (eqb p slash) && not (eqb p 46) && not (eqb (length u) 1) && not (lock-ends u))) (sym (first-cons t 46 l h)) (dot-is p (drop 1 t))
 
   pub slash-at : getD t 0 0 ≡ slash → fits-after p t ≡ (not (eqb p slash) && not (eqb (length t) 1))
   slash-at h = subst (λ (u : Bytes). fits-after p u ≡ (not (eqb p slash) && not (eqb (length u) 1))) (sym (first-cons t slash l h)) (slash-is p (drop 1 t))

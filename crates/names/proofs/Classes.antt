@@ -12,7 +12,7 @@ use lib.Seq.{drop-cons}
 use borrow.Author.Tests.{eq-eqb, ne-eqb}
 use Rattle.names.specs.Bytes.{Bytes, bytes, slash, if_then_else_, starts-with, after}
 use Rattle.names.specs.Name.{is-pseudo}
-use Rattle.names.specs.Category.{Category, Tag, LocalBranch, RemoteBranch, Note, Bisect, WorktreePrivate, Rewritten, PseudoRef, MainPseudoRef, MainRef, Class, prefix, classify-below, first-slash, classify-linked, without-prefix, without-refs, classify, off-in}
+use Rattle.names.specs.Category.{Category, Tag, LocalBranch, RemoteBranch, Note, Bisect, WorktreePrivate, Rewritten, PseudoRef, MainPseudoRef, MainRef, Class, prefix, classify-below, first-slash, classify-linked, without-prefix, without-refs, classify, off-in, short-name}
 use Rattle.names.proofs.Tests.{if-case, none≢some}
 use Rattle.names.proofs.Prefix.{starts-length}
 
@@ -117,6 +117,11 @@ off-linked s h (some i) e = off-below s _ _ _ _ (omega (arith, rw length-drop at
 -- a test that is met by a beginning
 off-of : (s p : Bytes) (a b : Option Class) → off-in a ≤ length p → off-in b ≤ length s → off-in (if starts-with p s then a else b) ≤ length s
 off-of s p a b h k = if-case (λ (o : Option Class). off-in o ≤ length s) (starts-with p s) (λ t. omega (arith, starts-length p s t)) (λ _. k)
+
+-- a short name is no longer than the name
+pub short-length : (s : Bytes) → length (short-name s) ≤ length s
+unfolding short-name
+short-length s = simp length-drop (omega arith)
 
 pub off-within : (s : Bytes) → off-in (classify s) ≤ length s
 unfolding classify

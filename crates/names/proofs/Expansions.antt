@@ -1,6 +1,6 @@
 -- The expansion of a namespace, component by component.
 use mathlib.Core.Path.{_≡_, refl, ap, _∙_}
-use Prim.Native.Nat.{ℕ, zero, suc, _+_, _-_, _≤_, _<_}
+use Prim.Native.Nat.{ℕ, zero, suc, _+_, _*_, _-_, _≤_, _<_}
 use native.Mathlib.Nat.{not-suc-le-zero, le-of-suc-le-suc}
 use native.Mathlib.Numerals.{add-one}
 use native.Mathlib.Omega.{arith}
@@ -14,7 +14,7 @@ use borrow.Author.Tests.{leb-true, leb-false, le-leb, lt-leb}
 use Rattle.names.specs.Bytes.{Bytes, bytes, slash, if_then_else_}
 use Rattle.names.specs.Category.{first-slash}
 use Rattle.names.specs.Means.{held, filled, if-fits, slash-found}
-use Rattle.names.specs.Name.{fits}
+use Rattle.names.specs.Name.{longest, fits}
 use Rattle.names.specs.Namespace.{expand, expand-rest}
 use Rattle.names.specs.Promises.{first-part, width-in}
 use Rattle.names.specs.declared.fullname.Slash.{Slash}
@@ -152,3 +152,17 @@ width-most b w e = rw e (go (eqb b slash))
     go : (f : Bool) → (if f then length (bytes "/refs/namespaces/") else 1) ≤ 17
     go true = omega arith
     go false = omega arith
+
+-- ---- a short namespace's expansion fits, as no byte becomes more than 17
+
+rest-most : (s : Bytes) → length (expand-rest s) ≤ 17 * length s + 1
+unfolding expand-rest
+rest-most [] = omega arith
+rest-most (b ∷ s) = go (eqb b slash) (rest-most s)
+  where
+    go : (f : Bool) → length (expand-rest s) ≤ 17 * length s + 1 → length (if f then bytes "/refs/namespaces/" ++ expand-rest s else b ∷ expand-rest s) ≤ 17 * suc (length s) + 1
+    go true h = omega (arith, h, length-append (bytes "/refs/namespaces/") (expand-rest s))
+    go false h = omega (arith, h)
+
+pub short-fits : (s : Bytes) → length s ≤ 13 → fits (expand s) ≡ true
+short-fits s h = le-leb (length (expand s)) longest (omega (arith, h, length-start s, rest-most s))

@@ -1,10 +1,9 @@
 -- Names that were made, where the bytes fit.
 use mathlib.Core.Path.{_≡_, refl, ap, sym, _∙_}
-use Prim.Native.Nat.{ℕ, zero, suc, _+_, _-_, _≤_, _<_}
-use native.Mathlib.Nat.{not-suc-le-zero, le-of-suc-le-suc}
+use Prim.Native.Nat.{ℕ, _+_, _-_, _≤_, _<_}
 use native.Mathlib.Omega.{arith}
 use mathlib.Core.Bool.{Bool, true, false}
-use mathlib.Core.List.{[], _∷_, _++_}
+use mathlib.Core.List.{[], _++_}
 use mathlib.Core.Option.{none, some}
 use lib.ListN.{length, take, length-append, length-take}
 use lib.Seq.{take-all}
@@ -15,13 +14,13 @@ use Rattle.names.specs.Name.{longest, fits}
 use Rattle.names.specs.Check.{Check, checked}
 use Rattle.names.specs.Candidates.{full-name}
 use Rattle.names.specs.Namespace.{names-check}
-use Rattle.names.specs.Means.{held, content, made-name, filled, if-fits, full-check, full-checked}
+use Rattle.names.specs.Means.{held, filled, if-fits, full-check, full-checked}
 use Rattle.output.specs.Pasted.{pasted}
-use Rattle.output.proofs.Pastes.{pasted-both, put-pasted}
-use Rattle.names.specs.declared.name.Made.{Made}
+use Rattle.output.proofs.Pastes.{pasted-both, pasted-taken, put-pasted}
 use Rattle.names.specs.declared.name.Filled.{Filled}
 use Rattle.names.specs.declared.name.Filled.the-variants.{To, TooLong}
 use Rattle.names.proofs.Tests.{none≢some}
+use Rattle.names.proofs.Parts.{held-is}
 
 both-ok : (k f : Bool) (b s : Bytes) → (if k then some b else none) ≡ (if f then some s else none) → k ≡ f
 both-ok true true b s e = refl
@@ -33,16 +32,7 @@ both-held : (f : Bool) (b s : Bytes) → some b ≡ (if f then some s else none)
 both-held true b s e = cc
 both-held false b s e = none≢some (sym e)
 
-module _ (r : Made) (s : Bytes) (e : made-name r ≡ if-fits s) where
-  -- it was made if the bytes fit
-  pub made-ok : r .ok ≡ fits s
-  made-ok = both-ok (r .ok) (fits s) (content (r .name)) s e
-
-  -- then it holds them
-  pub made-is : r .ok ≡ true → content (r .name) ≡ s
-  made-is k = both-held (fits s) (content (r .name)) s (rw k at e)
-
--- the same of bytes that were put in front
+-- bytes that were put in front
 module _ (b s : Bytes) (f : Filled) (e : filled b f ≡ if-fits s) where
   pub filled-is : (k : ℕ) → f ≡ To k → held b k ≡ s
   filled-is k g = both-held (fits s) (held b k) s (rw g at e)
@@ -65,22 +55,10 @@ full-longer pseudo between x = simp length-append (omega arith)
 
 -- ---- bytes put in front of a name's
 
-text-held : (b : Bytes) (k : ℕ) (s : Bytes) → take k b ≡ s → held b k ≡ s
-unfolding held
-text-held b k s e = e
-
--- what has room is there
-front-put : (b s : Bytes) (k : ℕ) → k ≤ length b → k ≤ length s → take k (pasted b 0 s) ≡ take k s
-unfolding pasted
-front-put b s zero h l = refl
-front-put [] s (suc k) h l = absurd (not-suc-le-zero h)
-front-put (x ∷ b) [] (suc k) h l = absurd (not-suc-le-zero l)
-front-put (x ∷ b) (y ∷ s) (suc k) h l = ap (λ (t : Bytes). y ∷ t) (front-put b s k (le-of-suc-le-suc h) (le-of-suc-le-suc l))
-
 -- the shorter of what there is and what a name holds
 pub fill-held : (b s b₁ : Bytes) (k : ℕ) → length b ≡ longest → b₁ ≡ pasted b 0 s → (k ≤ length s) × (k ≤ longest) × (k < length s → longest ≤ k) → held b₁ k ≡ take longest s
 unfolding held
-fill-held b s b₁ k h e l = rw (e, front-put b s k (omega (arith, l .1)) (l .0)) (go (leb (length s) k) refl)
+fill-held b s b₁ k h e l = rw (e, pasted-taken b s k (omega (arith, l .1)) (l .0)) (go (leb (length s) k) refl)
   where
     go : (f : Bool) → leb (length s) k ≡ f → take k s ≡ take longest s
     go true f = rw (take-all k s (leb-true (length s) k f), take-all longest s (omega (arith, leb-true (length s) k f, l .1)))
@@ -143,4 +121,4 @@ module _ (b : Bytes) (at i : ℕ) (h : length b ≡ longest) (n : (i ≤ at) × 
       let w : b₃ ≡ pasted b i (a ++ (s ++ t)) = rw (o, q, p, pasted-both (pasted b i a) (i + length a) s t) (pasted-both b i a (s ++ t)) in
       let m : i + length a + length s + length t ≡ i + length (a ++ (s ++ t)) = simp length-append (omega arith) in
       let text = put-pasted b i (a ++ (s ++ t)) b₃ (omega (arith, m, behind-room f)) w .text in
-      rw (together, ← e, f) (ap some (rw (m, ← kept) (text-held b₃ _ _ text)))
+      rw (together, ← e, f) (ap some (rw (m, ← kept) (held-is b₃ _ ∙ text)))

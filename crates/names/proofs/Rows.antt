@@ -10,7 +10,7 @@ use Rattle.names.specs.Check.{unless, _or-else_, Checked, refuses, check
 use Rattle.names.specs.Name.{longest, fits}
 use Rattle.names.specs.Namespace.{expand, expansion, passes-if-given, names-check, expanded}
 use Rattle.names.specs.WellFormed.{well-formed}
-use Rattle.names.specs.Means.{number, check-of}
+use Rattle.names.specs.Means.{number, check-of, full-check, full-checked}
 use Rattle.names.specs.declared.name.Refusal.{Refusal}
 use Rattle.names.specs.declared.name.Verdict.{Verdict}
 use Rattle.names.specs.declared.name.Verdict.the-variants.{Accepted, Refused}
@@ -24,6 +24,10 @@ names-none = refl
 pub expanded-is : (s : Bytes) → expanded s ≡ checked (names-check none (some s)) (expand s)
 unfolding expanded
 expanded-is s = refl
+
+pub full-checked-is : (s : Bytes) → full-checked s ≡ checked (full-check s) s
+unfolding full-checked
+full-checked-is s = refl
 
 module _ (x : Bytes) (o : Option Bytes) where
   pub names-long : (fits x && passes-if-given fits o) ≡ false → names-check (some x) o ≡ some 3

@@ -1,11 +1,10 @@
 -- What the code's types mean.
-use mathlib.Core.Path.{_≡_}
-use Prim.Native.Nat.{ℕ, _≤_, Ordering, Ordering·lt, Ordering·eq, Ordering·gt}
+use Prim.Native.Nat.{ℕ, Ordering, Ordering·lt, Ordering·eq, Ordering·gt}
 use mathlib.Core.Option.{Option, none, some}
-use lib.ListN.{length, take, drop}
+use lib.ListN.{take, drop}
 use Rattle.names.specs.Bytes.{Bytes, bytes, if_then_else_, after}
 use Rattle.names.specs.Check.{Check, unless, _or-else_, Checked, checked}
-use Rattle.names.specs.Name.{longest, fits}
+use Rattle.names.specs.Name.{fits}
 use Rattle.names.specs.WellFormed.{complete}
 use Rattle.names.specs.Category.{Category, Tag, LocalBranch, RemoteBranch, Note, Bisect, WorktreePrivate, Rewritten, PseudoRef, MainPseudoRef, MainRef, LinkedPseudoRef, LinkedRef, Class, class}
 use Rattle.names.specs.Route.{Base, own, shared, Place, at}
@@ -64,12 +63,6 @@ full-content n = content (n .0)
 -- a namespace holds its expansion
 abbrev pub expansion-content : Namespace → Bytes
 expansion-content n = content (n .0)
-
--- what a name's size tells
-pub record SizeOf (n : Name) (r : ℕ) : Type 0 where
-  pub is : r ≡ length (content n)
-  pub small : r ≤ longest
-  pub held : length (n .bytes) ≡ longest
 
 -- the bytes of a name that was made, if it was
 abbrev pub made-name : Made → Option Bytes

@@ -34,6 +34,10 @@ fits-after p s =
     && not (same s (bytes "."))
     && not (starts-with (bytes "@{") (p ∷ s))
 
+-- does it begin with a `.lock` that ends a component?
+abbrev pub lock-ends : Bytes → Bool
+lock-ends t = same t (bytes ".lock") || starts-with (bytes ".lock/") t
+
 -- the byte before place i, a slash before the first
 abbrev pub before : Bytes → ℕ → ℕ
 before s i = getD (slash ∷ s) i 0

@@ -155,7 +155,7 @@ pub fn contains(s: &[u8], p: &[u8]) -> bool
     p.len() == 0
 }
 
-// s without p, where that stands in front.
+// s without p, where that stands in front (strip_namespace).
 pub fn without<'a>(s: &'a [u8], p: &[u8]) -> &'a [u8]
     ensures { λ r. ⌜ now r ≡ strip (now (p .entry)) (now (s .entry)) ⌝ }
 {

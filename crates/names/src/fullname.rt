@@ -10,9 +10,7 @@ use crate::name::cut_name;
 use crate::name::empty;
 use crate::name::front;
 use crate::name::is_pseudo_ref;
-use crate::name::lend;
 use crate::name::put_joined;
-use crate::name::size;
 use crate::validate::complete;
 ghost use mathlib.Core.Path.{_≡_};
 ghost use mathlib.Core.List.{_++_};
@@ -22,7 +20,7 @@ ghost use lib.ListN.{take};
 ghost use Rattle.names.specs.Bytes.{Bytes, bytes, strip};
 ghost use Rattle.names.specs.Check.{refuses};
 ghost use Rattle.names.specs.Category.{class, first-slash, classify-below, classify-linked, classify, private-category, is-private, short-name, behind, full-of, to-full-name};
-ghost use Rattle.names.specs.Means.{content, filled, if-fits, slash-found, category-with, class-with, class-of, check-of, full-check, checked-full, full-checked};
+ghost use Rattle.names.specs.Means.{filled, if-fits, slash-found, category-with, class-with, class-of, check-of, full-check, checked-full, full-checked};
 
 // The linked ones hold the length of their worktree's name, which stands behind worktrees/.
 pub enum Category {
@@ -228,6 +226,14 @@ fn put_prefixed(out: &mut [u8; LONGEST], prefix: &[u8], p: &[u8]) -> Filled
     put_joined(out, b"", prefix, p)
 }
 
+// The same of a category that keeps its word, which stands behind refs/ in the prefix: the short name has it or not.
+fn put_kept(out: &mut [u8; LONGEST], prefix: &[u8], short: &[u8]) -> Filled
+    ensures { λ r. ⌜ filled (now (out .exit)) r ≡ if-fits (behind (now (prefix .entry)) (strip (strip (bytes "refs/") (now (prefix .entry))) (now (short .entry)))) ⌝ }
+{
+    let word = without(prefix, b"refs/");
+    put_prefixed(out, prefix, without(short, word))
+}
+
 // The same with the prefix of a linked worktree's names.
 fn put_linked(out: &mut [u8; LONGEST], worktree: &[u8], p: &[u8]) -> Filled
     ensures { λ r. ⌜ filled (now (out .exit)) r ≡ if-fits (behind (bytes "worktrees/" ++ now (worktree .entry) ++ bytes "/") (now (p .entry))) ⌝ }
@@ -248,19 +254,15 @@ fn put_full(out: &mut [u8; LONGEST], category: Category, worktree: &[u8], short:
         Category::Tag => put_prefixed(out, b"refs/tags/", short),
         Category::LocalBranch => put_prefixed(out, b"refs/heads/", short),
         Category::RemoteBranch => put_prefixed(out, b"refs/remotes/", short),
-        Category::Note => put_prefixed(out, b"refs/notes/", without(short, b"notes/")),
-        Category::PseudoRef => put_joined(out, b"", b"", short),
+        Category::Note => put_kept(out, b"refs/notes/", short),
+        Category::PseudoRef => put_prefixed(out, b"", short),
         Category::MainPseudoRef => put_prefixed(out, b"main-worktree/", short),
         Category::MainRef => put_prefixed(out, b"main-worktree/refs/", without(short, b"refs/")),
         Category::LinkedPseudoRef { name_len: _ } => put_linked(out, worktree, short),
         Category::LinkedRef { name_len: _ } => put_linked(out, worktree, short),
-        Category::Bisect => put_prefixed(out, b"refs/bisect/", without(short, b"bisect/")),
-        Category::Rewritten => put_prefixed(out, b"refs/rewritten/", without(short, b"rewritten/")),
-        Category::WorktreePrivate => put_prefixed(
-            out,
-            b"refs/worktree/",
-            without(short, b"worktree/"),
-        ),
+        Category::Bisect => put_kept(out, b"refs/bisect/", short),
+        Category::Rewritten => put_kept(out, b"refs/rewritten/", short),
+        Category::WorktreePrivate => put_kept(out, b"refs/worktree/", short),
     }
 }
 
@@ -289,12 +291,4 @@ pub fn to_full_name(category: Category, worktree: &[u8], short: &[u8]) -> Checke
         }
         Filled::TooLong => too_long(),
     }
-}
-
-// The name without e, where that stands in front.
-pub fn strip_namespace(n: Name, e: &[u8]) -> Name
-    ensures { λ r. ⌜ content r ≡ strip (now (e .entry)) (content n) ⌝ }
-{
-    let k = size(n);
-    cut_name(without(lend(&n.bytes, k), e))
 }

@@ -14,7 +14,7 @@ ghost use Rattle.names.specs.Check.{checked};
 ghost use Rattle.names.specs.Name.{longest, pseudo-byte, is-pseudo, looks-full};
 ghost use Rattle.names.specs.Candidates.{full-name};
 ghost use Rattle.names.specs.Namespace.{names-check};
-ghost use Rattle.names.specs.Means.{held, content, SizeOf, made-name, filled, if-fits, number, check-of, checked-partial};
+ghost use Rattle.names.specs.Means.{held, content, made-name, filled, if-fits, number, check-of, checked-partial};
 
 // The longest name.
 pub const LONGEST: usize = 250;
@@ -66,17 +66,6 @@ pub enum Verdict {
 pub struct CheckedPartial {
     pub verdict: Verdict,
     pub name: PartialName,
-}
-
-// How many bytes a name stands for.
-pub fn size(n: Name) -> usize
-    ensures { λ r. ⌜ SizeOf n r ⌝ }
-{
-    let k = n.len;
-    if k < LONGEST {
-        return k;
-    }
-    LONGEST
 }
 
 // The bytes of a name whose fields are b and len.

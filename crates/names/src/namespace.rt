@@ -62,29 +62,45 @@ fn put_expansion(out: &mut [u8; LONGEST], s: &[u8]) -> Filled
     Filled::To(at)
 }
 
+// A component's refs/namespaces/ and the slash behind it.
+const AROUND: usize = 17;
+
+// A namespace of so many bytes has an expansion that a name holds: each byte becomes AROUND at most.
+const SHORT: usize = (LONGEST - AROUND) / AROUND;
+
 // How many bytes a byte becomes in the expansion: with a slash comes the refs/namespaces/ of the next component.
 fn width_in(b: u8) -> usize
     ensures { λ r. ⌜ r ≡ width-in b ⌝ }
 {
     if b == b'/' {
-        return 17;
+        return AROUND;
     }
     1
 }
 
-// The length of the expansion, counted so that a check need not make it: 16 bytes go before the first component, 1 behind the
-// last.
+// The length of the expansion, counted so that a check need not make it.
 fn expansion_len(s: &[u8]) -> usize
     requires { ⌜ length (now s) ≤ longest ⌝ }
     ensures { λ r. ⌜ r ≡ length (expand (now (s .entry))) ⌝ }
 {
-    let mut n = 17;
+    let mut n = AROUND;
     let mut i = 0;
     while i < s.len() {
         n += width_in(s[i]);
         i += 1;
     }
     n
+}
+
+// Whether a name holds the expansion, counted where that is not known from the length.
+fn expansion_fits(s: &[u8]) -> bool
+    requires { ⌜ length (now s) ≤ longest ⌝ }
+    ensures { λ r. ⌜ r ≡ fits (expand (now (s .entry))) ⌝ }
+{
+    if s.len() <= SHORT {
+        return true;
+    }
+    expansion_len(s) <= LONGEST
 }
 
 // Whether s is a namespace: refused 3 over 250 bytes, then 4 if malformed, then 5 if its expansion is over 250 bytes.
@@ -97,7 +113,7 @@ pub fn check_namespace(s: &[u8]) -> Verdict
     if !well_formed(s) {
         return Verdict::Refused(Refusal::Malformed);
     }
-    if expansion_len(s) > LONGEST {
+    if !expansion_fits(s) {
         return Verdict::Refused(Refusal::ExpansionTooLong);
     }
     Verdict::Accepted

@@ -1,6 +1,5 @@
 // Well-formed and complete names: the rules of document 01 ("Names"), byte by byte. The Rust has them in gix-validate.
 use crate::bytes::contains;
-use crate::bytes::equal;
 use crate::bytes::in_range;
 use crate::bytes::starts_with;
 use crate::name::is_pseudo_ref;
@@ -9,7 +8,7 @@ ghost use Prim.Native.Nat.{_+_, _≤_, _<_};
 ghost use lib.ListN.{length, drop, getD};
 ghost use Rattle.names.specs.Bytes.{slash};
 ghost use Rattle.names.specs.WellFormed.{allowed, well-formed, complete};
-ghost use Rattle.names.specs.Promises.{rules-after, fits-after, before, plain, sure, all-sure};
+ghost use Rattle.names.specs.Promises.{rules-after, fits-after, lock-ends, before, plain, sure, all-sure};
 
 // No byte below 32, no 127, space, ~ ^ : ? * [ or backslash.
 fn allowed_byte(b: u8) -> bool
@@ -32,6 +31,19 @@ fn is_plain(b: u8) -> bool
     in_range(b, b'_', b'z') | in_range(b, b'0', b'9') | in_range(b, b'@', b'Z') | (b == b'-')
 }
 
+// Does t begin with a .lock that ends a component?
+fn lock_ends(t: &[u8]) -> bool
+    ensures { λ r. ⌜ r ≡ lock-ends (now (t .entry)) ⌝ }
+{
+    if !starts_with(t, b".lock") {
+        return false;
+    }
+    if t.len() == 5 {
+        return true;
+    }
+    t[5] == b'/'
+}
+
 // Does a dot that t begins with fit behind p? It begins no component, follows no dot, is not the last byte and begins no
 // .lock that ends a component.
 fn dot_fits(p: u8, t: &[u8]) -> bool
@@ -47,10 +59,7 @@ fn dot_fits(p: u8, t: &[u8]) -> bool
     if t.len() == 1 {
         return false;
     }
-    if equal(t, b".lock") {
-        return false;
-    }
-    !starts_with(t, b".lock/")
+    !lock_ends(t)
 }
 
 // Does a slash that t begins with fit behind p? It follows no slash and is not the last byte.
@@ -149,17 +158,21 @@ fn all_fit(s: &[u8]) -> bool
     true
 }
 
-// The rules in one pass, since every record of a packed region is asked.
+// The rules in one pass, since every record of a packed region is asked. What is handed on is a part, though it is the whole:
+// a slice that is handed on as it came is not passed in registers.
 pub fn well_formed(s: &[u8]) -> bool
     ensures { λ r. ⌜ r ≡ well-formed (now (s .entry)) ⌝ }
 {
     if s.len() == 0 {
         return false;
     }
-    if !all_fit(s) {
+    if !all_fit(&s[0..]) {
         return false;
     }
-    !equal(s, b"@")
+    if s.len() != 1 {
+        return true;
+    }
+    s[0] != b'@'
 }
 
 // Well formed and, besides, holding a slash or made only of A to Z and underscore.

@@ -1,5 +1,5 @@
 -- Writes one behind the other, over each other, and to the front.
-use mathlib.Core.Path.{_≡_, refl, ap, sym, _∙_}
+use mathlib.Core.Path.{_≡_, refl, ap, sym}
 use Prim.Native.Nat.{ℕ, zero, suc, _+_, _-_, _≤_, _<_}
 use mathlib.Core.List.{List, [], _∷_, _++_}
 use native.Mathlib.Numerals.{add-one}
@@ -23,6 +23,20 @@ pasted-both (x ∷ b) zero [] t = refl
 pasted-both (x ∷ b) zero (y ∷ s) t = let k : 0 + suc (length s) ≡ suc (0 + length s) = omega arith in rw k (ap (λ (l : List ℕ). y ∷ l) (pasted-both b zero s t))
 pasted-both (x ∷ b) (suc at) s t = let k : suc at + length s ≡ suc (at + length s) = omega arith in rw k (ap (λ (l : List ℕ). x ∷ l) (pasted-both b at s t))
 
+-- what lay behind the first n bytes is written over, and these stay
+pasted-kept : (b : List ℕ) (n : ℕ) (t : List ℕ) → n ≤ length b → pasted b n t ≡ pasted b 0 (take n b ++ t)
+unfolding pasted
+pasted-kept b zero t h = refl
+pasted-kept [] (suc n) t h = absurd (omega (arith, h))
+pasted-kept (x ∷ b) (suc n) t h = ap (λ (l : List ℕ). x ∷ l) (pasted-kept b n t (omega (arith, h)))
+
+-- two with a gap of n bytes between them, which stay
+pub pasted-apart : (b s : List ℕ) (n : ℕ) (t : List ℕ) → length s + n ≤ length b → pasted (pasted b 0 s) (length s + n) t ≡ pasted b 0 (s ++ (take n (drop (length s) b) ++ t))
+unfolding pasted
+pasted-apart [] s n t h = refl
+pasted-apart (x ∷ b) [] n t h = let k : 0 + n ≡ n = omega arith in rw k (pasted-kept (x ∷ b) n t (omega (arith, h)))
+pasted-apart (x ∷ b) (y ∷ s) n t h = let k : suc (length s) + n ≡ suc (length s + n) = omega arith in rw k (ap (λ (l : List ℕ). y ∷ l) (pasted-apart b s n t (omega (arith, h))))
+
 -- a piece over a longer one
 pub pasted-over : (b : List ℕ) (at : ℕ) (z s : List ℕ) → length s ≤ length z → pasted (pasted b at z) at s ≡ pasted b at (s ++ drop (length s) z)
 unfolding pasted
@@ -38,6 +52,14 @@ unfolding pasted
 pasted-front [] [] h = refl
 pasted-front (x ∷ b) [] h = refl
 pasted-front (x ∷ b) (y ∷ s) h = ap (λ (l : List ℕ). y ∷ l) (pasted-front b s (omega (arith, h)))
+
+-- of a piece at the front as many bytes stand there as have room
+pub pasted-taken : (b s : List ℕ) (k : ℕ) → k ≤ length b → k ≤ length s → take k (pasted b 0 s) ≡ take k s
+unfolding pasted
+pasted-taken b s zero h l = refl
+pasted-taken [] s (suc k) h l = absurd (omega (arith, h))
+pasted-taken (x ∷ b) [] (suc k) h l = absurd (omega (arith, l))
+pasted-taken (x ∷ b) (y ∷ s) (suc k) h l = ap (λ (t : List ℕ). y ∷ t) (pasted-taken b s k (omega (arith, h)) (omega (arith, l)))
 
 -- the first n bytes, copied, where those behind them find no room
 pub copied : (b : List ℕ) (at : ℕ) (s : List ℕ) (n : ℕ) → n ≤ length b - at → n ≤ length s → (n < length s → length b ≤ at + n)

@@ -3,14 +3,14 @@ use mathlib.Core.Path.{_≡_, refl}
 use Prim.Native.Nat.{ℕ}
 use native.Mathlib.Omega.{arith}
 use mathlib.Core.Bool.{Bool, true, false, true≢false, false≢true}
-use mathlib.Core.Option.{Option, none, some, Option·map}
+use mathlib.Core.Option.{Option, none, some}
 use Rattle.names.specs.Bytes.{Bytes}
 use Rattle.names.specs.Check.{Check, gives, refuses, checked}
 use Rattle.names.specs.Namespace.{passes-if-given}
-use Rattle.blocks.specs.Block.{Region}
-use Rattle.blocks.specs.Entry.{entries}
-use Rattle.blocks.specs.Fitness.{Flaw, first-flaw}
-use Rattle.blocks.specs.Snapshot.{Snapshot, or-empty, store, or-flaw, store-flaw}
+use Rattle.blocks.specs.Fitness.{Flaw}
+use Rattle.blocks.specs.Snapshot.{Snapshot, store, store-flaw}
+use Rattle.blocks.proofs.Stores.{store-is}
+use Rattle.blocks.proofs.Flaws.{store-flawless}
 use Rattle.blocks.specs.Means.{id-width, if-there}
 use Rattle.refs.specs.Search.{answers, turned-away, unfit, after-checks}
 use Rattle.refs.specs.Promises.{FitRegions}
@@ -95,13 +95,7 @@ gate-passes c f e (gate.Unfit why r i) x h n = absurd (false≢true n)
 
 -- ---- regions without a flaw
 
-or-none : (f g : Option Flaw) → or-flaw f g ≡ none → (f ≡ none) × (g ≡ none)
-or-none none g h = (refl, h)
-or-none (some l) g h = absurd (let z : _≡_ {A = ℕ} 0 1 = cc in omega arith)
-
 pub fit-regions : (s : Snapshot) → store-flaw (store id-width s) ≡ none → FitRegions s
-unfolding store-flaw store
 fit-regions s h =
-    let a = or-none (first-flaw Region.worktree (entries id-width Region.worktree (s .worktree))) _ h in
-    let b = or-none (first-flaw Region.common (or-empty (Option·map (entries id-width Region.common) (s .common)))) _ (a .1) in
-    record { worktree = a .0; common = λ c e. rw e at (b .0); packed = b .1 }
+    let f = rw (store-is id-width s) at (store-flawless (store id-width s) h) in
+    record { worktree = f .0; common = λ c e. rw e at (f .1); packed = f .2 }

@@ -4,26 +4,28 @@ use Prim.Native.Nat.{ℕ, _<_}
 use mathlib.Core.List.{_++_}
 use mathlib.Core.Bool.{Bool, true, false}
 use mathlib.Core.Option.{Option, none, some, Option·map}
-use Rattle.names.specs.Bytes.{Bytes, if_then_else_}
+use Rattle.names.specs.Bytes.{Bytes}
 use Rattle.names.specs.Route.{Base, own, shared, at, route, packed-name}
 use Rattle.blocks.specs.Block.{Region}
 use Rattle.blocks.specs.Content.{Reading, reads, unreadable, read}
-use Rattle.blocks.specs.Entry.{Entry, damaged, failed, loose, unread, packed-record, entry, first-blocks, blocks, entries}
-use Rattle.blocks.specs.Fitness.{flaw-from, first-flaw}
-use Rattle.blocks.specs.Means.{id-width, block-count, block-at, name-within, entry-in, if-there, snapshot-of}
+use Rattle.blocks.specs.Entry.{Entry, damaged, failed, loose, unread, packed-record, entry, entries}
+use Rattle.blocks.specs.Means.{id-width, block-count, block-at, name-within, entry-in, region-of, if-there, snapshot-of}
 use Rattle.blocks.proofs.Raw.{IsRecord, packed-entry}
 use Rattle.blocks.proofs.Entries.{entry-there}
+use Rattle.blocks.proofs.Stores.{no-entries, store-is}
+use Rattle.blocks.proofs.Flaws.{no-blocks-flawless}
 use Rattle.refs.specs.Answer.{Answer, nothing, reading-says, says, strip-reference, strip-answer, block-of}
 use Rattle.blocks.specs.Snapshot.{Store, store, common-or, region-at}
+use Rattle.blocks.specs.declared.block.Region as code-region
 use Rattle.refs.specs.Search.{clashes, deciding, file-of, record-of, entry-for, answer-of}
-use Rattle.refs.specs.Promises.{Flawless, FitRegions, IndexOf, ClashOf, IndexAnswer, PackedIndex, says-at, in-common, kind-read, candidate-answer, is-answer, source-region, source-bytes, source-at, source-entry, is-source, FlawlessSource, SourceOf, said-reference, source-name, source-content, HitOf, SourceSaid, HitReference}
-use Rattle.refs.specs.declared.find.Source.{Source}
+use Rattle.refs.specs.Promises.{Flawless, FitRegions, IndexOf, ClashOf, IndexAnswer, PackedIndex, says-at, region-read, candidate-answer, is-answer, is-somewhere, FlawlessPlace, PlaceOf, said-reference, HitOf, PlaceSaid, HitReference}
+use Rattle.refs.specs.declared.place.Place.{Place}
+use Rattle.refs.specs.declared.place.Place.the-variants.{Nowhere, In}
 use Rattle.refs.specs.declared.find.Hit.{Hit}
 use Rattle.refs.specs.declared.raw.Said.{Said}
 use Rattle.refs.specs.declared.raw.Reference as code
-use Rattle.refs.specs.Means.{answer-with, reference-of}
+use Rattle.refs.specs.Means.{answer-with, reference-of, part-of, place-region, place-bytes, place-block, place-name, place-content, place-entry}
 use Rattle.names.specs.Means.{content}
-use Rattle.refs.specs.declared.find.Source.the-variants as source
 use Rattle.refs.specs.declared.find.Index.{Index}
 use Rattle.refs.specs.declared.find.Index.the-variants.{At, Nothing}
 use Rattle.refs.proofs.Regions.{block-named}
@@ -82,9 +84,7 @@ module _ (e c : Bytes) (s : Store) (a : Answer) where
       go (At k) j g = record-answer p (e ++ q) f i h e (g .name) k j a (g .is) c
       go Nothing j g = g ∙ rw (found-none Region.packed p (e ++ q) f i h j)
 
--- ---- the routed region
-
--- ---- the source of an answer
+-- ---- the place of an answer
 
 -- an entry always answers
 reading-answers : (e n : Bytes) (d : Reading) → is-answer (strip-answer e (reading-says n d)) ≡ true
@@ -99,85 +99,88 @@ entry-answers e n (unread m) = refl
 entry-answers e n (packed-record m t q) = refl
 
 module _ (e w c p n : Bytes) (a : Answer) where
-  -- no source, no answer
-  pub no-source : nothing ≡ a → SourceOf e w c p n source.Nothing a
-  unfolding entries blocks first-blocks first-flaw flaw-from
-  no-source h = record { answer = h; there = rw (← h); fit = refl }
+  -- no block, no answer
+  pub no-place : nothing ≡ a → PlaceOf e w c p n Nowhere a
+  no-place h = record { answer = rw (no-entries id-width Region.worktree) h; there = rw (← h); fit = no-blocks-flawless id-width Region.worktree }
 
   -- the answer of a block that is there
-  pub a-source : (o : Source) → is-source o ≡ true → source-at o < block-count (source-bytes w c p o) → FlawlessSource w c p o
-      → strip-answer e (says-at n (source-entry w c p o)) ≡ a → SourceOf e w c p n o a
-  a-source o t l f h =
+  pub a-place : (o : Place) → is-somewhere o ≡ true → place-block o < block-count (place-bytes w c p o) → FlawlessPlace w c p o
+      → strip-answer e (says-at n (place-entry w c p o)) ≡ a → PlaceOf e w c p n o a
+  a-place o t l f h =
       record {
         answer = h;
-        there = rw (← h, entry-there id-width (source-region o) (source-bytes w c p o) (source-at o) l) (entry-answers e n (entry id-width (source-region o) (block-at (source-bytes w c p o) (source-at o))) ∙ sym t);
+        there = rw (← h, entry-there id-width (place-region o) (place-bytes w c p o) (place-block o) l) (entry-answers e n (entry id-width (place-region o) (block-at (place-bytes w c p o) (place-block o))) ∙ sym t);
         fit = f;
       }
 
   -- under another equation
-  pub same-source : (o : Source) (b : Answer) → a ≡ b → SourceOf e w c p n o a → SourceOf e w c p n o b
-  same-source o b h g = rw (← h) g
+  pub same-place : (o : Place) (b : Answer) → a ≡ b → PlaceOf e w c p n o a → PlaceOf e w c p n o b
+  same-place o b h g = rw (← h) g
+
+-- ---- the routed region
 
 module _ (w c p : Bytes) (has : Bool) where
-  region-is : (b : Base) → region-at b (store id-width (snapshot-of w (if-there has c) p)) ≡ entries id-width (kind-read (in-common b has)) (if in-common b has then c else w)
-  unfolding store
-  region-is own = refl
-  region-is shared = go has
+  region-is : (b : Base) → region-at b (store id-width (snapshot-of w (if-there has c) p)) ≡ entries id-width (region-read b has) (part-of w c p (region-read b has))
+  region-is own = rw (store-is id-width (snapshot-of w (if-there has c) p))
+  region-is shared = rw (store-is id-width (snapshot-of w (if-there has c) p)) (go has)
     where
-      go : (h : Bool) → common-or (Option·map (entries id-width Region.common) (if-there h c)) (entries id-width Region.worktree w) ≡ entries id-width (kind-read h) (if h then c else w)
+      go : (h : Bool) → common-or (Option·map (entries id-width Region.common) (if-there h c)) (entries id-width Region.worktree w) ≡ entries id-width (region-read shared h) (part-of w c p (region-read shared h))
       go true = refl
       go false = refl
 
+  packed-is : store id-width (snapshot-of w (if-there has c) p) .packed ≡ entries id-width Region.packed p
+  packed-is = rw (store-is id-width (snapshot-of w (if-there has c) p))
+
   module _ (fit : FitRegions (snapshot-of w (if-there has c) p)) where
-    pub region-fit : (b : Base) → Flawless (kind-read (in-common b has)) (if in-common b has then c else w)
+    region-fit : (b : Base) → Flawless (region-read b has) (part-of w c p (region-read b has))
     region-fit own = fit .worktree
     region-fit shared = go has (fit .common)
       where
-        go : (h : Bool) → ((x : Bytes) → if-there h c ≡ some x → Flawless Region.common x) → Flawless (kind-read h) (if h then c else w)
+        go : (h : Bool) → ((x : Bytes) → if-there h c ≡ some x → Flawless Region.common x) → Flawless (region-read shared h) (part-of w c p (region-read shared h))
         go true f = f c refl
         go false f = fit .worktree
 
-    module _ (e n : Bytes) (b : Base) (path : Bytes) (q : at b path ≡ route n) (seek : Bool) where
+    module _ (e n : Bytes) (b : Base) (path : Bytes) (q : at b path ≡ route n) (seek : Bool) (r : code-region.Region) (z : region-of r ≡ region-read b has) where
+      loose-fit : Flawless (region-of r) (part-of w c p (region-of r))
+      loose-fit = rw z (region-fit b)
+
       decided : candidate-answer e (snapshot-of w (if-there has c) p) n seek
-          ≡ answer-of id-width e n (deciding (clashes (e ++ path) (entries id-width (kind-read (in-common b has)) (if in-common b has then c else w))) (block-of (e ++ path) (entries id-width (kind-read (in-common b has)) (if in-common b has then c else w))) (record-of e (store id-width (snapshot-of w (if-there has c) p)) seek (packed-name n)))
+          ≡ answer-of id-width e n (deciding (clashes (e ++ path) (entries id-width (region-of r) (part-of w c p (region-of r)))) (block-of (e ++ path) (entries id-width (region-of r) (part-of w c p (region-of r)))) (record-of e (store id-width (snapshot-of w (if-there has c) p)) seek (packed-name n)))
       unfolding entry-for file-of
-      decided = rw (← q, region-is b)
+      decided = rw (← q, region-is b, z)
 
-      pub lookup-clash : ClashOf (e ++ path) (if in-common b has then c else w) true → nothing ≡ candidate-answer e (snapshot-of w (if-there has c) p) n seek
-      lookup-clash h = sym (decided ∙ rw (← h (kind-read (in-common b has)) (region-fit b)))
+      pub lookup-clash : ClashOf (e ++ path) (part-of w c p (region-of r)) true → nothing ≡ candidate-answer e (snapshot-of w (if-there has c) p) n seek
+      lookup-clash h = sym (decided ∙ rw (← h (region-of r) loose-fit))
 
-      module _ (h : ClashOf (e ++ path) (if in-common b has then c else w) false) (i : Index) (g : IndexOf (e ++ path) (if in-common b has then c else w) i) where
-        pub lookup-loose : (k : ℕ) → i ≡ At k → SourceOf e w c p n (source.Loose (in-common b has) k) (candidate-answer e (snapshot-of w (if-there has c) p) n seek)
+      module _ (h : ClashOf (e ++ path) (part-of w c p (region-of r)) false) (i : Index) (g : IndexOf (e ++ path) (part-of w c p (region-of r)) i) where
+        pub lookup-loose : (k : ℕ) → i ≡ At k → PlaceOf e w c p n (In r k) (candidate-answer e (snapshot-of w (if-there has c) p) n seek)
         lookup-loose k j =
-            let r = kind-read (in-common b has) in
-            let t = if in-common b has then c else w in
-            let m = found-block r t (e ++ path) (region-fit b) i g k j in
-            a-source e w c p n _ (source.Loose (in-common b has) k) refl (m .0) (region-fit b)
-            (found-answer r t (e ++ path) (region-fit b) i g e n k j _ refl ∙ sym (decided ∙ rw (← h r (region-fit b), m .1)))
+            let t = part-of w c p (region-of r) in
+            let m = found-block (region-of r) t (e ++ path) loose-fit i g k j in
+            a-place e w c p n _ (In r k) refl (m .0) loose-fit
+            (found-answer (region-of r) t (e ++ path) loose-fit i g e n k j _ refl ∙ sym (decided ∙ rw (← h (region-of r) loose-fit, m .1)))
 
         pub lookup-packed : i ≡ Nothing → (a : Answer) → a ≡ answer-of id-width e n (record-of e (store id-width (snapshot-of w (if-there has c) p)) seek (packed-name n)) → a ≡ candidate-answer e (snapshot-of w (if-there has c) p) n seek
         lookup-packed j a f =
-            f ∙ sym (decided ∙ rw (← h (kind-read (in-common b has)) (region-fit b), found-none (kind-read (in-common b has)) (if in-common b has then c else w) (e ++ path) (region-fit b) i g j))
+            f ∙ sym (decided ∙ rw (← h (region-of r) loose-fit, found-none (region-of r) (part-of w c p (region-of r)) (e ++ path) loose-fit i g j))
 
         module _ (j : i ≡ Nothing) (x : Index) (l : PackedIndex e n seek p x) where
-          pub lookup-record : (k : ℕ) → x ≡ At k → SourceOf e w c p n (source.Packed k) (candidate-answer e (snapshot-of w (if-there has c) p) n seek)
-          unfolding store
+          pub lookup-record : (k : ℕ) → x ≡ At k → PlaceOf e w c p n (In code-region.the-variants.Packed k) (candidate-answer e (snapshot-of w (if-there has c) p) n seek)
           lookup-record k y =
               let o : PackedIndex e n seek p (At k) = rw (← y) l in
               let a = strip-answer e (says-at n (entry-in id-width Region.packed p k)) in
-              a-source e w c p n _ (source.Packed k) refl (o .inside) (fit .packed)
-              (lookup-packed j a (o .is (store id-width (snapshot-of w (if-there has c) p)) refl a (record { name = n; is = refl })))
+              a-place e w c p n _ (In code-region.the-variants.Packed k) refl (o .inside) (fit .packed)
+              (lookup-packed j a (o .is (store id-width (snapshot-of w (if-there has c) p)) packed-is a (record { name = n; is = refl })))
 
-          pub lookup-none : x ≡ Nothing → SourceOf e w c p n source.Nothing (candidate-answer e (snapshot-of w (if-there has c) p) n seek)
-          unfolding store
+          pub lookup-none : x ≡ Nothing → PlaceOf e w c p n Nowhere (candidate-answer e (snapshot-of w (if-there has c) p) n seek)
           lookup-none y =
               let o : PackedIndex e n seek p Nothing = rw (← y) l in
-              no-source e w c p n _ (lookup-packed j nothing (o .is (store id-width (snapshot-of w (if-there has c) p)) refl nothing refl))
+              no-place e w c p n _ (lookup-packed j nothing (o .is (store id-width (snapshot-of w (if-there has c) p)) packed-is nothing refl))
 
 -- ---- the answer of a hit
 
-module _ (e w c p : Bytes) (h : Hit) (a : Answer) (g : HitOf e w c p h a) (s : Said) (q : SourceSaid w c p (h .source) s) where
-  pub hit-outcome : a ≡ answer-with (s .outcome) (strip-reference e (said-reference s (content (h .name)) (source-name w c p (h .source)) (source-content w c p (h .source))))
+module _ (e w c p : Bytes) (h : Hit) (a : Answer) (g : HitOf e w c p h a) (s : Said) (q : PlaceSaid w c p (h .place) s) where
+  pub hit-outcome : a ≡ answer-with (s .outcome) (strip-reference e (said-reference s (content (h .name)) (place-name w c p (h .place)) (place-content w c p (h .place))))
   hit-outcome = sym (g .answer) ∙ rw (← q (content (h .name))) (sym (strip-with e (s .outcome) _))
 
   pub hit-answer : (r : code.Reference) → HitReference e w c p h s r → a ≡ answer-with (s .outcome) (reference-of r)

@@ -2,34 +2,30 @@
 use mathlib.Core.Path.{_≡_, refl, sym, _∙_}
 use Prim.Native.Nat.{ℕ, _≤_}
 use native.Mathlib.Omega.{arith}
-use mathlib.Core.List.{[]}
 use mathlib.Core.Bool.{Bool, true, false}
 use mathlib.Core.Option.{Option, none, some}
-use borrow.Author.Tests.{leb-true}
-use lib.Dec.{leb, ltb}
-use lib.ListN.{length, take, drop, length-take}
+use lib.ListN.{length, take, drop}
 use lib.Seq.{take-all}
 use Rattle.names.specs.Bytes.{Bytes, if_then_else_, strip}
-use Rattle.names.specs.Means.{held, content}
+use Rattle.names.specs.Means.{held}
 use Rattle.names.proofs.Prefix.{strip-length}
 use Rattle.names.specs.Name.{longest}
-use Rattle.blocks.specs.Layout.{name-at, content-at, longest-content}
-use Rattle.blocks.specs.Block.{Region, name-length, content-length, block-name, block-content}
+use Rattle.blocks.specs.Block.{Region}
 use Rattle.blocks.specs.Content.{object}
 use Rattle.blocks.specs.Entry.{packed-record}
-use Rattle.blocks.specs.Means.{id-width, block-count, block-at, name-in, content-in, entry-in, as-entry, id-in, target-name-in}
+use Rattle.blocks.specs.Means.{id-width, name-in, content-in, entry-in, as-entry, id-in, target-name-in}
 use Rattle.blocks.specs.declared.block.EntryKind.{EntryKind}
 use Rattle.blocks.specs.declared.block.EntryKind.the-variants.{Record, PeeledRecord}
+use Rattle.blocks.proofs.Contents.{target-le}
 use Rattle.blocks.proofs.Sound.{Ids, record-ids, target-id, peeled-id}
 use Rattle.refs.specs.Answer.{Reference, Answer, found, strip-target, strip-reference, strip-answer}
 use Rattle.refs.specs.declared.raw.Kind.{Kind}
 use Rattle.refs.specs.declared.raw.Kind.the-variants.{Object, Symbolic}
 use Rattle.refs.specs.declared.raw.Outcome.{Outcome}
 use Rattle.refs.specs.declared.raw.Outcome.the-variants as outcome
-use Rattle.refs.specs.declared.raw.Reference as code
 use Rattle.refs.specs.declared.raw.Said.{Said}
-use Rattle.refs.specs.Means.{target-of, reference-of, answer-with}
-use Rattle.refs.specs.Promises.{says-at, BlockIs, said-reference, said-answer, TargetPart}
+use Rattle.refs.specs.Means.{target-of, answer-with, target-part, block-reference}
+use Rattle.refs.specs.Promises.{says-at, BlockIs, said-reference}
 
 module _ (r : Region) (s : Bytes) (k : ℕ) (kind : EntryKind) (name c n : Bytes) (b : BlockIs r s k kind name c) where
   -- the answer is that of the kind
@@ -50,27 +46,6 @@ module _ (r : Region) (s : Bytes) (k : ℕ) (kind : EntryKind) (name c n : Bytes
       let i = said-ids (some q) (rw e) in
       said a (h ∙ rw (e, target-id id-width c (take id-width (content-in s k)) (some q) i, peeled-id id-width c (take id-width (content-in s k)) q i, b .content-is))
 
--- ---- names and contents of blocks are short enough
-
-within-longest : (m k : ℕ) (s : Bytes) → length (if leb k m then take k s else []) ≤ m
-within-longest m k s = go (leb k m) refl
-  where
-    go : (b : Bool) → leb k m ≡ b → length (if b then take k s else []) ≤ m
-    go true e = omega (arith, length-take k s, leb-true k m e)
-    go false e = omega arith
-
-in-longest : (m : ℕ) (b : Bool) (s : Bytes) → length s ≤ m → length (if b then s else []) ≤ m
-in-longest m true s h = h
-in-longest m false s h = omega arith
-
-pub name-short : (s : Bytes) (k : ℕ) → length (name-in s k) ≤ longest
-unfolding block-name
-name-short s k = in-longest longest (ltb k (block-count s)) _ (within-longest longest (name-length (block-at s k)) (drop name-at (block-at s k)))
-
-pub content-short : (s : Bytes) (k : ℕ) → length (content-in s k) ≤ longest-content
-unfolding block-content
-content-short s k = in-longest longest-content (ltb k (block-count s)) _ (within-longest longest-content (content-length (block-at s k)) (drop content-at (block-at s k)))
-
 -- ---- the reference that is said
 
 -- what was put into a name, where it fits
@@ -86,15 +61,26 @@ pub either-fits : (m : ℕ) (b : Bool) (s t : Bytes) → length s ≤ m → leng
 either-fits m true s t h g = h
 either-fits m false s t h g = g
 
-target-said : (kind : Kind) (e id c t : Bytes) → TargetPart kind c t → target-of kind id (strip e t) ≡ strip-target e (target-of kind id (target-name-in c))
-target-said Object e id c t h = refl
-target-said Symbolic e id c t h = rw h
+-- the target's name is no longer than the content
+pub target-short : (kind : Kind) (c : Bytes) → length (target-part kind c) ≤ length c
+target-short Object c = omega arith
+target-short Symbolic c = target-le c
 
-module _ (e : Bytes) (s : Said) (n own c t : Bytes) (r : code.Reference) where
-  pub said-parts : content (r .name) ≡ strip e (if s .«from_packed» then own else n) → TargetPart (s .kind) c t → content (r .target) ≡ strip e t → r .kind ≡ s .kind
-      → r .id .digits ≡ id-in id-width c → r .«has_peeled» ≡ s .«has_peeled» → r .peeled .digits ≡ id-in id-width (drop id-width c)
-      → reference-of r ≡ strip-reference e (said-reference s n own c)
-  said-parts a b d k i h p = rw (a, d, k, i, h, p, target-said (s .kind) e (id-in id-width c) c t b)
+target-said : (kind : Kind) (e id c : Bytes) → target-of kind id (strip e (target-part kind c)) ≡ strip-target e (target-of kind id (target-name-in c))
+target-said Object e id c = refl
+target-said Symbolic e id c = refl
+
+-- what a block says, stripped
+pub said-stripped : (e : Bytes) (s : Said) (n own c : Bytes) → block-reference e (s .kind) (s .«has_peeled») (if s .«from_packed» then own else n) c ≡ strip-reference e (said-reference s n own c)
+said-stripped e s n own c = rw (target-said (s .kind) e (id-in id-width c) c)
+
+same-either : (b : Bool) (s : Bytes) → (if b then s else s) ≡ s
+same-either true s = refl
+same-either false s = refl
+
+-- and under its own name
+pub said-own : (e : Bytes) (s : Said) (own c : Bytes) → block-reference e (s .kind) (s .«has_peeled») own c ≡ strip-reference e (said-reference s own own c)
+said-own e s own c = rw (same-either (s .«from_packed») own, target-said (s .kind) e (id-in id-width c) c)
 
 -- stripping keeps the outcome
 pub strip-with : (e : Bytes) (o : Outcome) (r : Reference) → answer-with o (strip-reference e r) ≡ strip-answer e (answer-with o r)

@@ -2,31 +2,30 @@
 -- not speak of them.
 use mathlib.Core.Path.{_≡_}
 use mathlib.Core.Bool.{Bool, true, false}
-use mathlib.Core.List.{[]}
 use mathlib.Core.Option.{Option, none, some}
 use Prim.Native.Nat.{ℕ, Ordering, Ordering·lt, Ordering·eq, Ordering·gt}
 use Rattle.names.specs.Bytes.{Bytes, if_then_else_}
 use Rattle.blocks.specs.Block.{Region}
 use Rattle.blocks.specs.Entry.{Entry, entries}
-use Rattle.blocks.specs.Means.{id-width, name-in, content-in, as-entry, entry-in, region-of}
+use Rattle.blocks.specs.Means.{id-width, name-in, as-entry, entry-in, region-of}
 use Rattle.blocks.specs.declared.block.EntryKind.{EntryKind}
 use Rattle.blocks.specs.declared.block.EntryKind.the-variants.{End, Damaged, Failed, Loose, Unread, Record, PeeledRecord}
-use Rattle.refs.specs.Answer.{Reference, Answer, nothing, refused, strip-reference, strip-answer}
+use Rattle.refs.specs.Answer.{Reference, Answer, nothing, refused, strip-answer}
 use Rattle.refs.specs.View.{Seen, Scope, scope, see, worktree-shows, common-shows, packed-shows}
 use Rattle.refs.specs.Listing.{Waiting, none-left, error, named, Offer, least, past, Positions, Move, by-name, choose, peek}
 use Rattle.refs.specs.Run.{is-nothing}
-use Rattle.refs.specs.Means.{reference-of, answer-with, listed-with}
-use Rattle.refs.specs.Promises.{says-at, said-reference, said-answer}
+use Rattle.refs.specs.Means.{answer-with, part-of, place-name, place-content, place-entry, positions-of, listed-with}
+use Rattle.refs.specs.Promises.{says-at, said-answer}
 use Rattle.refs.specs.declared.overlay_iter.Left.{Left}
 use Rattle.refs.specs.declared.overlay_iter.Listed.{Listed}
 use Rattle.blocks.specs.declared.fitness.Sizes.{Sizes}
 use Rattle.blocks.specs.declared.fitness.Sizes.the-variants as sizes
+use Rattle.refs.specs.declared.place.Place.{Place}
+use Rattle.refs.specs.declared.place.Place.the-variants.{Nowhere, In}
 use Rattle.refs.specs.declared.raw.Outcome.{Outcome}
 use Rattle.refs.specs.declared.raw.Said.{Said}
-use Rattle.refs.specs.declared.raw.Reference as code
 use Rattle.refs.specs.declared.overlay_iter.Left.the-variants as left
 use Rattle.refs.specs.declared.overlay_iter.Waiting as waiting
-use Rattle.refs.specs.declared.overlay_iter.Offer as offer
 use Rattle.refs.specs.declared.overlay_iter.Positions as positions
 use Rattle.refs.specs.declared.overlay_iter.Move as move
 
@@ -88,12 +87,6 @@ is-name left.Nothing = false
 is-name left.Error = false
 is-name left.Name = true
 
--- a region, of three
-abbrev pub part-of : Bytes → Bytes → Bytes → Region → Bytes
-part-of w c p Region.worktree = w
-part-of w c p Region.common = c
-part-of w c p Region.packed = p
-
 -- the first of two names is below the second, or the same
 abbrev pub not-above : Ordering → Bool
 not-above Ordering·lt = true
@@ -101,9 +94,9 @@ not-above Ordering·eq = true
 not-above Ordering·gt = false
 
 -- the block of the regions w, c, p that is offered
-abbrev pub offer-of : Bytes → Bytes → Bytes → Bytes → offer.Offer → Option Offer
-offer-of e w c p offer.the-variants.Nothing = none
-offer-of e w c p (offer.the-variants.From r k) =
+abbrev pub offer-of : Bytes → Bytes → Bytes → Bytes → Place → Option Offer
+offer-of e w c p Nowhere = none
+offer-of e w c p (In r k) =
     some (record { name = name-in (part-of w c p (region-of r)) k; answer = answer-at e (region-of r) (part-of w c p (region-of r)) k })
 
 -- the answer that is handed out: "ended" where no block is
@@ -111,53 +104,24 @@ abbrev pub offered : Option Offer → Answer
 offered none = nothing
 offered (some o) = o .answer
 
--- the positions that the struct holds
-abbrev pub positions-of : positions.Positions → Positions
-positions-of at = record { worktree = at .worktree; common = at .common; packed = at .packed }
-
 -- what is handed out of the regions w, c, p, and the positions after it
 abbrev pub move-of : Bytes → Bytes → Bytes → Bytes → move.Move → Move
 move-of e w c p m = record { answer = offered (offer-of e w c p (m .given)); next = positions-of (m .next) }
 
 -- ---- the block that is handed out
 
--- its region; an empty one where none is
-abbrev pub offer-region : offer.Offer → Region
-offer-region offer.the-variants.Nothing = Region.worktree
-offer-region (offer.the-variants.From r k) = region-of r
-
-abbrev pub offer-bytes : Bytes → Bytes → Bytes → offer.Offer → Bytes
-offer-bytes w c p offer.the-variants.Nothing = []
-offer-bytes w c p (offer.the-variants.From r k) = part-of w c p (region-of r)
-
--- its number there
-abbrev pub offer-at : offer.Offer → ℕ
-offer-at offer.the-variants.Nothing = 0
-offer-at (offer.the-variants.From r k) = k
-
--- its name and content
-abbrev pub offer-name : Bytes → Bytes → Bytes → offer.Offer → Bytes
-offer-name w c p o = name-in (offer-bytes w c p o) (offer-at o)
-
-abbrev pub offer-content : Bytes → Bytes → Bytes → offer.Offer → Bytes
-offer-content w c p o = content-in (offer-bytes w c p o) (offer-at o)
-
 -- the kind is its entry's
-abbrev pub OfferKind : Bytes → Bytes → Bytes → offer.Offer → EntryKind → Type 0
-OfferKind w c p o kind = as-entry id-width kind (offer-name w c p o) (offer-content w c p o) ≡ entry-in id-width (offer-region o) (offer-bytes w c p o) (offer-at o)
+abbrev pub OfferKind : Bytes → Bytes → Bytes → Place → EntryKind → Type 0
+OfferKind w c p o kind = as-entry id-width kind (place-name w c p o) (place-content w c p o) ≡ place-entry w c p o
 
 -- s is what it says under its own name
-abbrev pub OfferSaid : Bytes → Bytes → Bytes → offer.Offer → Said → Type 0
-OfferSaid w c p o s = (e : Bytes) → strip-answer e (said-answer s (offer-name w c p o) (offer-name w c p o) (offer-content w c p o)) ≡ offered (offer-of e w c p o)
-
--- r is the reference that it says, stripped
-abbrev pub OfferReference : Bytes → Bytes → Bytes → Bytes → offer.Offer → Said → code.Reference → Type 0
-OfferReference e w c p o s r = reference-of r ≡ strip-reference e (said-reference s (offer-name w c p o) (offer-name w c p o) (offer-content w c p o))
+abbrev pub OfferSaid : Bytes → Bytes → Bytes → Place → Said → Type 0
+OfferSaid w c p o s = (e : Bytes) → strip-answer e (said-answer s (place-name w c p o) (place-name w c p o) (place-content w c p o)) ≡ offered (offer-of e w c p o)
 
 -- ---- what the parts of a choice promise, whatever is stripped
 
 -- o is the lesser of what waits in the region r and of q
-abbrev pub LeastOf : Bytes → Bytes → Bytes → Region → waiting.Waiting → offer.Offer → offer.Offer → Type 0
+abbrev pub LeastOf : Bytes → Bytes → Bytes → Region → waiting.Waiting → Place → Place → Type 0
 LeastOf w c p r x q o = (e : Bytes) → offer-of e w c p o ≡ least (waiting-of e r (part-of w c p r) x) (offer-of e w c p q)
 
 -- j is the position of the region s after the name n was handed out, i before

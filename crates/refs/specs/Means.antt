@@ -1,19 +1,23 @@
 -- What the code's types mean: for each answer the paper's number and values.
 use mathlib.Core.Path.{_≡_}
 use mathlib.Core.Bool.{Bool, true, false}
-use mathlib.Core.Option.{none, some}
+use mathlib.Core.List.{[]}
+use mathlib.Core.Option.{Option, none, some}
 use Prim.Native.Nat.{ℕ}
-use Rattle.names.specs.Bytes.{Bytes, if_then_else_}
+use lib.ListN.{drop}
+use Rattle.names.specs.Bytes.{Bytes, if_then_else_, strip}
 use Rattle.names.specs.Means.{content, number}
 use Rattle.names.specs.Check.{Check, Checked, checked}
 use Rattle.blocks.specs.Content.{Target, object, symbolic}
 use Rattle.blocks.specs.Block.{Region}
-use Rattle.blocks.specs.Means.{id-width, name-in, content-in, entry-in, as-entry}
+use Rattle.blocks.specs.Entry.{Entry}
+use Rattle.blocks.specs.Means.{id-width, name-in, content-in, entry-in, as-entry, id-in, target-name-in}
 use Rattle.blocks.specs.Means as blocks
 use Rattle.blocks.specs.declared.block.EntryKind.{EntryKind}
 use Rattle.refs.specs.Answer.{Reference, Answer, nothing, found, refused}
 use Rattle.refs.specs.Search.{Searched, Result, answers, turned-away, unfit}
 use Rattle.refs.specs.Follow.{Followed, not-there, reached, stopped, barred}
+use Rattle.refs.specs.Listing.{Positions}
 use Rattle.refs.specs.Run.{State, Step}
 use Rattle.refs.specs.declared.raw.Kind.{Kind}
 use Rattle.refs.specs.declared.raw.Kind.the-variants.{Object, Symbolic}
@@ -21,6 +25,8 @@ use Rattle.refs.specs.declared.raw.Reason.{Reason}
 use Rattle.refs.specs.declared.raw.Reason.the-variants.{Damaged, ErrorKind, Unread, Unreadable, Incomplete, Unsupported}
 use Rattle.refs.specs.declared.raw.Outcome.{Outcome}
 use Rattle.refs.specs.declared.raw.Answered.{Answered}
+use Rattle.refs.specs.declared.place.Place.{Place}
+use Rattle.refs.specs.declared.place.Place.the-variants.{Nowhere, In}
 use Rattle.refs.specs.declared.check.Gate.{Gate}
 use Rattle.refs.specs.declared.raw_ext.Stop.{Stop}
 use Rattle.refs.specs.declared.raw_ext.Stop.the-variants.{NotFound, Cycle, TooDeep}
@@ -29,12 +35,14 @@ use Rattle.refs.specs.declared.raw_ext.Trail.{Trail}
 use Rattle.refs.specs.declared.overlay_iter.Opening.{Opening}
 use Rattle.refs.specs.declared.overlay_iter.Opened.{Opened}
 use Rattle.refs.specs.declared.overlay_iter.Listed.{Listed}
+use Rattle.refs.specs.declared.overlay_iter.Advanced.{Advanced}
 use Rattle.refs.specs.declared.overlay_iter.Stepped.{Stepped}
 use Rattle.refs.specs.declared.raw.Outcome.the-variants as outcome
 use Rattle.refs.specs.declared.raw.Reference as code
 use Rattle.refs.specs.declared.check.Gate.the-variants as gate
 use Rattle.refs.specs.declared.raw_ext.Ending.the-variants as ending
 use Rattle.refs.specs.declared.overlay_iter.Listing as listing
+use Rattle.refs.specs.declared.overlay_iter.Positions as positions
 use Rattle.refs.specs.declared.overlay_iter.Opening.the-variants as opening
 use Rattle.refs.specs.declared.overlay_iter.Listed.the-variants as listed
 
@@ -72,6 +80,52 @@ answer-with (outcome.Refused why) r = refused (reason-number why)
 -- what the struct answers
 abbrev pub answered : Answered → Answer
 answered a = answer-with (a .outcome) (reference-of (a .reference))
+
+-- ---- the block of a place, in the regions w, c, p
+
+-- a region, of three
+abbrev pub part-of : Bytes → Bytes → Bytes → Region → Bytes
+part-of w c p Region.worktree = w
+part-of w c p Region.common = c
+part-of w c p Region.packed = p
+
+-- which region it stands in; without a block any, and its bytes none
+abbrev pub place-region : Place → Region
+place-region Nowhere = Region.worktree
+place-region (In r k) = blocks.region-of r
+
+abbrev pub place-bytes : Bytes → Bytes → Bytes → Place → Bytes
+place-bytes w c p Nowhere = []
+place-bytes w c p (In r k) = part-of w c p (blocks.region-of r)
+
+-- its number there
+abbrev pub place-block : Place → ℕ
+place-block Nowhere = 0
+place-block (In r k) = k
+
+-- its name, content and entry
+abbrev pub place-name : Bytes → Bytes → Bytes → Place → Bytes
+place-name w c p o = name-in (place-bytes w c p o) (place-block o)
+
+abbrev pub place-content : Bytes → Bytes → Bytes → Place → Bytes
+place-content w c p o = content-in (place-bytes w c p o) (place-block o)
+
+abbrev pub place-entry : Bytes → Bytes → Bytes → Place → Option Entry
+place-entry w c p o = entry-in id-width (place-region o) (place-bytes w c p o) (place-block o)
+
+-- the name of a symbolic target in a content; an object has none
+abbrev pub target-part : Kind → Bytes → Bytes
+target-part Object c = []
+target-part Symbolic c = target-name-in c
+
+-- the reference of a block's name and content, by the kind of its target and whether it has a peeled id, without e in front
+abbrev pub block-reference : Bytes → Kind → Bool → Bytes → Bytes → Reference
+block-reference e kind peeled n c =
+    record {
+      name = strip e n;
+      target = target-of kind (id-in id-width c) (strip e (target-part kind c));
+      peeled = if peeled then some (id-in id-width (drop id-width c)) else none;
+    }
 
 -- ---- calls
 
@@ -118,9 +172,13 @@ trail-of t = followed-of (t .ending) (t .reference)
 
 -- ---- the listing
 
+-- the positions that the struct holds
+abbrev pub positions-of : positions.Positions → Positions
+positions-of at = record { worktree = at .worktree; common = at .common; packed = at .packed }
+
 -- the state that the struct holds
 abbrev pub state-of : listing.Listing → State
-state-of l = record { at = record { worktree = l .worktree; common = l .common; packed = l .packed }; ended = l .ended; expansion = content (l .expansion) }
+state-of l = record { at = positions-of (l .at); ended = l .ended; expansion = content (l .expansion) }
 
 -- 1 "size not a multiple of 512", 2 "over 4,096 blocks", 3 to 5 of the namespace
 abbrev pub opening-check : Opening → Check
@@ -140,6 +198,14 @@ listed-with listed.TooMany r = refused 2
 listed-with listed.Entry r = found r
 listed-with (listed.Refused why) r = refused (reason-number why)
 listed-with listed.Ended r = nothing
+
+-- the answer, whose reference is that of the block, and the next state, whose expansion is e still
+abbrev pub advanced : Bytes → Bytes → Bytes → Bytes → Advanced → Step
+advanced e w c p a =
+    record {
+      answer = listed-with (a .answer) (block-reference e (a .kind) (a .«has_peeled») (place-name w c p (a .given)) (place-content w c p (a .given)));
+      next = record { at = positions-of (a .next); ended = a .ended; expansion = e };
+    }
 
 -- the answer and the next state
 abbrev pub step-of : Stepped → Step

@@ -23,8 +23,8 @@ use Rattle.blocks.specs.Snapshot.{Snapshot, Store, store}
 use Rattle.blocks.specs.declared.block.EntryKind.{EntryKind}
 use Rattle.refs.specs.Answer.{Reference, Answer, nothing, found, refused, says, strip-reference, strip-answer, block-of}
 use Rattle.refs.specs.Search.{clashes, record-of, entry-for, answer-of, lookup, first-answer, search}
-use Rattle.refs.specs.Follow.{Followed, on-target, on-answer, max-ref-depth, follow-from, following}
-use Rattle.refs.specs.Means.{target-of, answer-with, reference-of}
+use Rattle.refs.specs.Follow.{Followed, max-ref-depth, follow-from, following}
+use Rattle.refs.specs.Means.{target-of, answer-with, reference-of, place-region, place-bytes, place-name, place-content, place-entry}
 use Rattle.refs.specs.declared.raw.Reference as code
 use Rattle.refs.specs.declared.raw.Kind.{Kind}
 use Rattle.refs.specs.declared.raw.Kind.the-variants.{Object, Symbolic}
@@ -36,8 +36,8 @@ use Rattle.refs.specs.declared.raw_ext.Ending.{Ending}
 use Rattle.refs.specs.declared.raw_ext.Ending.the-variants as ending
 use Rattle.refs.specs.declared.find.Index.{Index}
 use Rattle.refs.specs.declared.find.Index.the-variants.{At, Nothing}
-use Rattle.refs.specs.declared.find.Source.{Source}
-use Rattle.refs.specs.declared.find.Source.the-variants as source
+use Rattle.refs.specs.declared.place.Place.{Place}
+use Rattle.refs.specs.declared.place.Place.the-variants.{Nowhere, In}
 use Rattle.refs.specs.declared.find.Hit.{Hit}
 use Rattle.refs.specs.declared.check.NamesGate.{NamesGate}
 use Rattle.refs.specs.declared.check.CheckedNames.{CheckedNames}
@@ -110,11 +110,6 @@ said-answer s n m c = answer-with (s .outcome) (said-reference s n m c)
 abbrev pub SaidBy : EntryKind → Bytes → Said → Type 0
 SaidBy kind c s = (n m : Bytes) (r : Region) (t : Bytes) (k : ℕ) → BlockIs r t k kind m c → said-answer s n m c ≡ says-at n (entry-in id-width r t k)
 
--- t is the name of a symbolic target in the content c
-abbrev pub TargetPart : Kind → Bytes → Bytes → Type 0
-TargetPart Object c t = Unit {0}
-TargetPart Symbolic c t = t ≡ target-name-in c
-
 -- the answer is that of block k of the packed region p, under some name
 pub record AnswerAt (e p : Bytes) (k : ℕ) (a : Answer) : Type 0 where
   pub name : Bytes
@@ -130,54 +125,22 @@ pub record PackedIndex (e c : Bytes) (seek : Bool) (p : Bytes) (i : Index) : Typ
   pub is : (s : Store) → s .packed ≡ entries id-width Region.packed p → (a : Answer) → IndexAnswer e p i a → a ≡ answer-of id-width e c (record-of e s seek (packed-name c))
   pub inside : InRange i (block-count p)
 
--- search reads the common region: a shared name, where there is one
-abbrev pub in-common : Base → Bool → Bool
-in-common own has = false
-in-common shared has = has
-
--- which loose region it is
-abbrev pub kind-read : Bool → Region
-kind-read true = Region.common
-kind-read false = Region.worktree
+-- the loose region that search reads: the common one for a shared name, where there is one
+abbrev pub region-read : Base → Bool → Region
+region-read own has = Region.worktree
+region-read shared true = Region.common
+region-read shared false = Region.worktree
 
 -- ---- the block that a candidate finds
 
--- its region; an empty one where none is found
-abbrev pub source-region : Source → Region
-source-region source.Nothing = Region.worktree
-source-region (source.Loose b k) = kind-read b
-source-region (source.Packed k) = Region.packed
-
-abbrev pub source-bytes : Bytes → Bytes → Bytes → Source → Bytes
-source-bytes w c p source.Nothing = []
-source-bytes w c p (source.Loose b k) = if b then c else w
-source-bytes w c p (source.Packed k) = p
-
--- its number there
-abbrev pub source-at : Source → ℕ
-source-at source.Nothing = 0
-source-at (source.Loose b k) = k
-source-at (source.Packed k) = k
-
--- its name, content and entry
-abbrev pub source-name : Bytes → Bytes → Bytes → Source → Bytes
-source-name w c p o = name-in (source-bytes w c p o) (source-at o)
-
-abbrev pub source-content : Bytes → Bytes → Bytes → Source → Bytes
-source-content w c p o = content-in (source-bytes w c p o) (source-at o)
-
-abbrev pub source-entry : Bytes → Bytes → Bytes → Source → Option Entry
-source-entry w c p o = entry-in id-width (source-region o) (source-bytes w c p o) (source-at o)
-
 -- one is found
-abbrev pub is-source : Source → Bool
-is-source source.Nothing = false
-is-source (source.Loose b k) = true
-is-source (source.Packed k) = true
+abbrev pub is-somewhere : Place → Bool
+is-somewhere Nowhere = false
+is-somewhere (In r k) = true
 
 -- its region has no flaw
-abbrev pub FlawlessSource : Bytes → Bytes → Bytes → Source → Type 0
-FlawlessSource w c p o = Flawless (source-region o) (source-bytes w c p o)
+abbrev pub FlawlessPlace : Bytes → Bytes → Bytes → Place → Type 0
+FlawlessPlace w c p o = Flawless (place-region o) (place-bytes w c p o)
 
 -- a candidate, and whether it is sought packed
 abbrev pub candidate : Bytes → Bool → Candidate
@@ -222,24 +185,24 @@ is-answer nothing = false
 is-answer (found r) = true
 is-answer (refused k) = true
 
--- a is what the source answers under the name n, and there is an answer just where there is a source
-pub record SourceOf (e w c p n : Bytes) (o : Source) (a : Answer) : Type 0 where
-  pub answer : strip-answer e (says-at n (source-entry w c p o)) ≡ a
-  pub there : is-answer a ≡ is-source o
-  pub fit : FlawlessSource w c p o
+-- a is what the block of the place answers under the name n, and there is an answer just where there is a block
+pub record PlaceOf (e w c p n : Bytes) (o : Place) (a : Answer) : Type 0 where
+  pub answer : strip-answer e (says-at n (place-entry w c p o)) ≡ a
+  pub there : is-answer a ≡ is-somewhere o
+  pub fit : FlawlessPlace w c p o
 
 -- how many bytes were put
 abbrev pub filled-len : Filled → ℕ
 filled-len (fill.To k) = k
 filled-len fill.TooLong = 0
 
--- the source is that of the candidate n that was put into b, if it was
-abbrev pub FilledSource : Bytes → Bytes → Bytes → Bytes → Snapshot → Bytes → Filled → Bool → Source → Type 0
-FilledSource e w c p s b f seek o = (n : Bytes) → filled b f ≡ if-fits n → SourceOf e w c p (held b (filled-len f)) o (looked-up e s n seek)
+-- the place is that of the candidate n that was put into b, if it was
+abbrev pub FilledPlace : Bytes → Bytes → Bytes → Bytes → Snapshot → Bytes → Filled → Bool → Place → Type 0
+FilledPlace e w c p s b f seek o = (n : Bytes) → filled b f ≡ if-fits n → PlaceOf e w c p (held b (filled-len f)) o (looked-up e s n seek)
 
 -- the same of a hit, under the candidate's name
 abbrev pub HitOf : Bytes → Bytes → Bytes → Bytes → Hit → Answer → Type 0
-HitOf e w c p h a = SourceOf e w c p (content (h .name)) (h .source) a
+HitOf e w c p h a = PlaceOf e w c p (content (h .name)) (h .place) a
 
 -- a pass over the names l gives the hit h, before the rest
 pub record PassHit (e w c p : Bytes) (s : Snapshot) (l : List Bytes) (h : Hit) : Type 0 where
@@ -253,13 +216,13 @@ search-answer e s x = search id-width e (store id-width s) x .answer
 
 -- ---- the answer of a hit
 
--- what the source says under any name
-abbrev pub SourceSaid : Bytes → Bytes → Bytes → Source → Said → Type 0
-SourceSaid w c p o s = (n : Bytes) → said-answer s n (source-name w c p o) (source-content w c p o) ≡ says-at n (source-entry w c p o)
+-- what the block of the place says under any name
+abbrev pub PlaceSaid : Bytes → Bytes → Bytes → Place → Said → Type 0
+PlaceSaid w c p o s = (n : Bytes) → said-answer s n (place-name w c p o) (place-content w c p o) ≡ says-at n (place-entry w c p o)
 
 -- the reference that it says of the hit, stripped
 abbrev pub HitReference : Bytes → Bytes → Bytes → Bytes → Hit → Said → code.Reference → Type 0
-HitReference e w c p h s r = reference-of r ≡ strip-reference e (said-reference s (content (h .name)) (source-name w c p (h .source)) (source-content w c p (h .source)))
+HitReference e w c p h s r = reference-of r ≡ strip-reference e (said-reference s (content (h .name)) (place-name w c p (h .place)) (place-content w c p (h .place)))
 
 -- ---- the checks
 

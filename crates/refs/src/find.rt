@@ -3,30 +3,34 @@ ghost use mathlib.Core.Path.{_≡_};
 ghost use mathlib.Core.List.{_++_};
 ghost use mathlib.Core.Bool.{true};
 ghost use lib.ListN.{drop};
-ghost use Rattle.names.specs.Bytes.{if_then_else_};
-ghost use Rattle.names.specs.Candidates.{full-name};
 ghost use Rattle.names.specs.Bytes.{Bytes};
+ghost use Rattle.names.specs.Candidates.{full-name};
 ghost use Rattle.names.specs.Means.{filled, if-fits, base-of};
-ghost use Rattle.blocks.specs.Means.{id-width, if-there, snapshot-of};
-ghost use Rattle.blocks.specs.Block.{Region};
+ghost use Rattle.blocks.specs.Means.{id-width, region-of, if-there, snapshot-of};
 ghost use Rattle.refs.specs.Search.{find};
 ghost use Rattle.refs.specs.Means.{gated, answer-only, answered};
 ghost use Rattle.refs.specs.Answer.{nothing};
-ghost use Rattle.refs.specs.Promises.{Flawless, FitRegions, IndexOf, ClashOf, PackedIndex, in-common, candidate-answer, between, is-source, source-bytes, source-at, source-content, FlawlessSource, SourceOf, FilledSource, filled-len, HitOf, looked-up, pass-names, PassHit, last-answer, search-answer, SourceSaid, HitReference};
+ghost use Rattle.refs.specs.Promises.{Flawless, FitRegions, IndexOf, ClashOf, PackedIndex, region-read, candidate-answer, between, is-somewhere, FlawlessPlace, PlaceOf, FilledPlace, filled-len, HitOf, looked-up, pass-names, PassHit, last-answer, search-answer, PlaceSaid, HitReference};
 use crate::check::Gate;
 use crate::check::check_call;
 use crate::check::is_passed;
+use crate::place::Place;
+use crate::place::block_in;
+use crate::place::content_in;
+use crate::place::name_in;
+use crate::place::part;
+use crate::place::region_in;
 use crate::raw::Answered;
 use crate::raw::Outcome;
 use crate::raw::Reference;
 use crate::raw::Said;
+use crate::raw::answer_name;
 use crate::raw::no_reference;
 use crate::raw::reference_with;
 use crate::raw::says;
 use blocks::block::BLOCK_SIZE;
-use blocks::block::block_content;
+use blocks::block::Region;
 use blocks::block::block_name;
-use blocks::block::content_of;
 use blocks::block::sound_kind;
 use names::bytes::Order;
 use names::bytes::compare_joined;
@@ -97,7 +101,7 @@ fn tail(s: &[u8], off: usize) -> &[u8]
 
 // The packed record of a candidate s, where it is sought packed.
 fn packed_index(packed: &[u8], e: &[u8], s: &[u8], seek: bool) -> Index
-    requires { ⌜ Flawless Region.packed (now packed) ⌝ }
+    requires { ⌜ Flawless (region-of Region.Packed) (now packed) ⌝ }
     ensures { λ i. ⌜ PackedIndex (now (e .entry)) (now (s .entry)) seek (now (packed .entry)) i ⌝ }
 {
     if !seek {
@@ -110,43 +114,31 @@ fn packed_index(packed: &[u8], e: &[u8], s: &[u8], seek: bool) -> Index
     }
 }
 
-// Whether the common region is read: a shared name, where there is one.
-fn reads_common(base: Base, has_common: bool) -> bool
-    ensures { λ r. ⌜ r ≡ in-common (base-of base) «has_common» ⌝ }
+// The loose region that is read: the common one for a shared name, where there is one.
+fn region_read(base: Base, has_common: bool) -> Region
+    ensures { λ r. ⌜ region-of r ≡ region-read (base-of base) «has_common» ⌝ }
 {
     match base {
-        Base::Own => false,
-        Base::Shared => has_common,
+        Base::Own => Region::Worktree,
+        Base::Shared => {
+            if has_common {
+                Region::Common
+            } else {
+                Region::Worktree
+            }
+        }
     }
 }
 
-// The loose region that is read.
-fn loose_region<'a>(worktree: &'a [u8], common: &'a [u8], in_common: bool) -> &'a [u8]
-    ensures { λ r. ⌜ now r ≡ (if «in_common» then now (common .entry) else now (worktree .entry)) ⌝ }
+fn is_somewhere(place: Place) -> bool
+    ensures { λ r. ⌜ r ≡ is-somewhere place ⌝ }
 {
-    if in_common {
-        return common;
-    }
-    worktree
-}
-
-// The block that a candidate finds, of a loose region or of packed.
-pub enum Source {
-    Nothing,
-    Loose { in_common: bool, at: usize },
-    Packed { at: usize },
-}
-
-fn is_source(source: Source) -> bool
-    ensures { λ r. ⌜ r ≡ is-source source ⌝ }
-{
-    match source {
-        Source::Nothing => false,
-        Source::Loose {
-            in_common: _,
-            at: _,
+    match place {
+        Place::Nowhere => false,
+        Place::In {
+            region: _,
+            block: _,
         } => true,
-        Source::Packed { at: _ } => true,
     }
 }
 
@@ -155,31 +147,34 @@ fn lookup<'a>(
     worktree: &'a [u8],
     common: &'a [u8],
     has_common: bool,
-    packed: &[u8],
+    packed: &'a [u8],
     e: &[u8],
     s: &[u8],
     seek: bool,
-) -> Source
+) -> Place
     requires { ⌜ FitRegions (snapshot-of (now worktree) (if-there «has_common» (now common)) (now packed)) ⌝ }
-    ensures { λ o. ⌜ SourceOf (now (e .entry)) (now (worktree .entry)) (now (common .entry)) (now (packed .entry)) (now (s .entry)) o (candidate-answer (now (e .entry)) (snapshot-of (now (worktree .entry)) (if-there «has_common» (now (common .entry))) (now (packed .entry))) (now (s .entry)) seek) ⌝ }
+    ensures { λ o. ⌜ PlaceOf (now (e .entry)) (now (worktree .entry)) (now (common .entry)) (now (packed .entry)) (now (s .entry)) o (candidate-answer (now (e .entry)) (snapshot-of (now (worktree .entry)) (if-there «has_common» (now (common .entry))) (now (packed .entry))) (now (s .entry)) seek) ⌝ }
 {
-    let place = to_base_dir_and_relative_name(s);
-    let base = place.base;
-    let off = place.off;
-    let in_common = reads_common(base, has_common);
-    let region = loose_region(worktree, common, in_common);
+    let route = to_base_dir_and_relative_name(s);
+    let base = route.base;
+    let off = route.off;
+    let region = region_read(base, has_common);
+    let loose = part(worktree, common, packed, region);
     let path = tail(s, off);
-    if has_clash(region, e, path) {
-        return Source::Nothing;
+    if has_clash(loose, e, path) {
+        return Place::Nowhere;
     }
-    let i = block_of(region, e, path);
+    let i = block_of(loose, e, path);
     match i {
-        Index::At(k) => Source::Loose { in_common, at: k },
+        Index::At(k) => Place::In { region, block: k },
         Index::Nothing => {
             let j = packed_index(packed, e, s, seek);
             match j {
-                Index::At(k) => Source::Packed { at: k },
-                Index::Nothing => Source::Nothing,
+                Index::At(k) => Place::In {
+                    region: Region::Packed,
+                    block: k,
+                },
+                Index::Nothing => Place::Nowhere,
             }
         }
     }
@@ -190,18 +185,18 @@ fn lookup_filled<'a>(
     worktree: &'a [u8],
     common: &'a [u8],
     has_common: bool,
-    packed: &[u8],
+    packed: &'a [u8],
     e: &[u8],
     b: &[u8; LONGEST],
     f: Filled,
     seek: bool,
-) -> Source
+) -> Place
     requires { ⌜ FitRegions (snapshot-of (now worktree) (if-there «has_common» (now common)) (now packed)) ⌝ }
-    ensures { λ o. ⌜ FilledSource (now (e .entry)) (now (worktree .entry)) (now (common .entry)) (now (packed .entry)) (snapshot-of (now (worktree .entry)) (if-there «has_common» (now (common .entry))) (now (packed .entry))) (now (b .entry)) f seek o ⌝ }
+    ensures { λ o. ⌜ FilledPlace (now (e .entry)) (now (worktree .entry)) (now (common .entry)) (now (packed .entry)) (snapshot-of (now (worktree .entry)) (if-there «has_common» (now (common .entry))) (now (packed .entry))) (now (b .entry)) f seek o ⌝ }
 {
     match f {
         Filled::To(len) => lookup(worktree, common, has_common, packed, e, front(b, len), seek),
-        Filled::TooLong => Source::Nothing,
+        Filled::TooLong => Place::Nowhere,
     }
 }
 
@@ -216,7 +211,7 @@ fn filled_len(f: Filled) -> usize
 
 // A candidate and the block that it finds. An answer is too large to be handed on, so it is made of these, once, at the end.
 pub struct Hit {
-    pub source: Source,
+    pub place: Place,
     pub name: Name,
 }
 
@@ -225,7 +220,7 @@ fn no_hit() -> Hit
 {
     let name = empty();
     Hit {
-        source: Source::Nothing,
+        place: Place::Nowhere,
         name,
     }
 }
@@ -247,7 +242,7 @@ fn try_directory<'a>(
     worktree: &'a [u8],
     common: &'a [u8],
     has_common: bool,
-    packed: &[u8],
+    packed: &'a [u8],
     e: &[u8],
     x: &[u8],
     d: usize,
@@ -260,7 +255,7 @@ fn try_directory<'a>(
     let f = put_candidate(&mut name.bytes, x, d, pseudo);
     let len = filled_len(f);
     name.len = len;
-    let source = lookup_filled(
+    let place = lookup_filled(
         worktree,
         common,
         has_common,
@@ -270,7 +265,7 @@ fn try_directory<'a>(
         f,
         true,
     );
-    Hit { source, name }
+    Hit { place, name }
 }
 
 // One pass over the four directories; left early after the first, where only that counts.
@@ -278,7 +273,7 @@ fn one_pass<'a>(
     worktree: &'a [u8],
     common: &'a [u8],
     has_common: bool,
-    packed: &[u8],
+    packed: &'a [u8],
     e: &[u8],
     x: &[u8],
     pseudo: bool,
@@ -290,8 +285,8 @@ fn one_pass<'a>(
     let mut d: usize = 0;
     'try_directories: while d < 4 {
         let h = try_directory(worktree, common, has_common, packed, e, x, d, pseudo);
-        let source = h.source;
-        if is_source(source) {
+        let place = h.place;
+        if is_somewhere(place) {
             return h;
         }
         if one {
@@ -307,7 +302,7 @@ fn try_remote_head<'a>(
     worktree: &'a [u8],
     common: &'a [u8],
     has_common: bool,
-    packed: &[u8],
+    packed: &'a [u8],
     e: &[u8],
     x: &[u8],
 ) -> Hit
@@ -321,7 +316,7 @@ fn try_remote_head<'a>(
     let f = remote_head_candidate(&mut name.bytes, x);
     let len = filled_len(f);
     name.len = len;
-    let source = lookup_filled(
+    let place = lookup_filled(
         worktree,
         common,
         has_common,
@@ -331,7 +326,7 @@ fn try_remote_head<'a>(
         f,
         false,
     );
-    Hit { source, name }
+    Hit { place, name }
 }
 
 // Search for the partial name x, unchecked, in regions fit for search. A second pass begins only when the first was left
@@ -340,7 +335,7 @@ pub(crate) fn find_one_with_verified_input<'a>(
     worktree: &'a [u8],
     common: &'a [u8],
     has_common: bool,
-    packed: &[u8],
+    packed: &'a [u8],
     e: &[u8],
     x: &[u8],
 ) -> Hit
@@ -349,74 +344,33 @@ pub(crate) fn find_one_with_verified_input<'a>(
 {
     let pseudo = is_pseudo_ref(x);
     let a = one_pass(worktree, common, has_common, packed, e, x, true, pseudo);
-    let first = a.source;
-    if is_source(first) {
+    let first = a.place;
+    if is_somewhere(first) {
         return a;
     }
     if !pseudo {
         return try_remote_head(worktree, common, has_common, packed, e, x);
     }
     let b = one_pass(worktree, common, has_common, packed, e, x, false, false);
-    let second = b.source;
-    if is_source(second) {
+    let second = b.place;
+    if is_somewhere(second) {
         return b;
     }
     try_remote_head(worktree, common, has_common, packed, e, x)
 }
 
-// The region of a source: an empty one, where none is found.
-fn region_in<'a>(worktree: &'a [u8], common: &'a [u8], packed: &'a [u8], source: Source) -> &'a [u8]
-    ensures { λ r. ⌜ now r ≡ source-bytes (now (worktree .entry)) (now (common .entry)) (now (packed .entry)) source ⌝ }
-{
-    match source {
-        Source::Nothing => &packed[0..0],
-        Source::Loose { in_common, at: _ } => loose_region(worktree, common, in_common),
-        Source::Packed { at: _ } => packed,
-    }
-}
-
-// The number of its block there.
-fn block_in(source: Source) -> usize
-    ensures { λ k. ⌜ k ≡ source-at source ⌝ }
-{
-    match source {
-        Source::Nothing => 0,
-        Source::Loose { in_common: _, at } => at,
-        Source::Packed { at } => at,
-    }
-}
-
-// Its content, a part of the region.
-fn content_in<'a>(
-    worktree: &'a [u8],
-    common: &'a [u8],
-    packed: &'a [u8],
-    source: Source,
-) -> &'a [u8]
-    ensures { λ r. ⌜ now r ≡ source-content (now (worktree .entry)) (now (common .entry)) (now (packed .entry)) source ⌝ }
-{
-    match source {
-        Source::Nothing => &packed[0..0],
-        Source::Loose { in_common, at } => content_of(worktree, common, in_common, at),
-        Source::Packed { at } => block_content(packed, at),
-    }
-}
-
-// What the block of a source in a region fit for search says.
+// What the block of a place in a region fit for search says.
 pub(crate) fn said_of<'a>(
     worktree: &'a [u8],
     common: &'a [u8],
     packed: &'a [u8],
-    source: Source,
+    place: Place,
 ) -> Said
-    requires { ⌜ FlawlessSource (now worktree) (now common) (now packed) source ⌝ }
-    ensures { λ s. ⌜ SourceSaid (now (worktree .entry)) (now (common .entry)) (now (packed .entry)) source s ⌝ }
+    requires { ⌜ FlawlessPlace (now worktree) (now common) (now packed) place ⌝ }
+    ensures { λ s. ⌜ PlaceSaid (now (worktree .entry)) (now (common .entry)) (now (packed .entry)) place s ⌝ }
 {
-    let kind = sound_kind(
-        region_in(worktree, common, packed, source),
-        block_in(source),
-    );
-    says(kind, content_in(worktree, common, packed, source))
+    let kind = sound_kind(region_in(worktree, common, packed, place), block_in(place));
+    says(kind, content_in(worktree, common, packed, place))
 }
 
 // The reference that it says.
@@ -430,14 +384,13 @@ pub(crate) fn reference_of<'a>(
 ) -> Reference
     ensures { λ r. ⌜ HitReference (now (e .entry)) (now (worktree .entry)) (now (common .entry)) (now (packed .entry)) h said r ⌝ }
 {
-    let source = h.source;
-    let own = block_name(
-        region_in(worktree, common, packed, source),
-        block_in(source),
-    );
-    let file = content_in(worktree, common, packed, source);
+    let place = h.place;
+    let own = name_in(worktree, common, packed, place);
+    let file = content_in(worktree, common, packed, place);
     let len = h.name.len;
-    reference_with(said, lend(&h.name.bytes, len), own, file, e)
+    let n = answer_name(lend(&h.name.bytes, len), own, said.from_packed);
+    let kind = said.kind;
+    reference_with(kind, said.has_peeled, n, file, e)
 }
 
 // What a search gives: the answer counts where the call passed its checks.
@@ -481,8 +434,8 @@ pub fn find<'a>(
         lend(&call.expansion.bytes, len),
         name,
     );
-    let source = h.source;
-    let said = said_of(worktree, common, packed, source);
+    let place = h.place;
+    let said = said_of(worktree, common, packed, place);
     let outcome = said.outcome;
     let reference = reference_of(
         worktree,

@@ -3,5 +3,6 @@ pub mod check;
 pub mod find;
 pub mod overlay_iter;
 pub mod packed;
+pub mod place;
 pub mod raw;
 pub mod raw_ext;

@@ -8,13 +8,18 @@ ghost use Rattle.names.specs.Check.{checked};
 ghost use Rattle.names.specs.Namespace.{expansion, names-check};
 ghost use Rattle.names.specs.Means.{content, ordering};
 ghost use Rattle.blocks.specs.Entry.{entry, entries};
-ghost use Rattle.blocks.specs.Snapshot.{is-there};
+ghost use Rattle.blocks.specs.Snapshot.{is-there, or-empty};
 ghost use Rattle.blocks.specs.Means.{id-width, region-of, block-count, block-at, if-there, snapshot-of};
 ghost use Rattle.refs.specs.View.{scope, worktree-shows, common-shows};
 ghost use Rattle.refs.specs.Listing.{none-left, first-seen, peek};
 ghost use Rattle.refs.specs.Run.{start, open-listing, step};
-ghost use Rattle.refs.specs.Means.{state-of, opening-check, opened, step-of};
-ghost use Rattle.refs.specs.ListPromises.{shows-in, seen-in, is-error, is-left, waiting-of, is-fault, is-name, part-of, not-above, LeastOf, PastOf, NameMove, ErrorMove, ChosenMove, offer-bytes, offer-at, OfferKind, OfferSaid, OfferReference, Lists, Ends, MoveIn, StepMove, stays, ListedAfter, EndedAfter};
+ghost use Rattle.refs.specs.Means.{positions-of, state-of, opening-check, opened, advanced, step-of};
+ghost use Rattle.refs.specs.ListPromises.{shows-in, seen-in, is-error, is-left, waiting-of, is-fault, is-name, not-above, LeastOf, PastOf, NameMove, ErrorMove, ChosenMove, OfferKind, OfferSaid, Lists, Ends, MoveIn, StepMove, stays, ListedAfter, EndedAfter};
+use crate::place::Place;
+use crate::place::content_in;
+use crate::place::name_in;
+use crate::place::part;
+use crate::raw::Kind;
 use crate::raw::Outcome;
 use crate::raw::Reason;
 use crate::raw::Reference;
@@ -24,7 +29,6 @@ use crate::raw::says;
 use blocks::block::BLOCK_SIZE;
 use blocks::block::EntryKind;
 use blocks::block::Region;
-use blocks::block::block_content;
 use blocks::block::block_name;
 use blocks::block::entry_kind;
 use blocks::fitness::Sizes;
@@ -43,12 +47,16 @@ use names::name::lend;
 use names::namespace::expand;
 use names::validate::well_formed;
 
-// The listing's state: where the next block of each region is looked for, whether it is ended, and the namespace's
-// expansion, empty where there is none.
-pub struct Listing {
+// Where the next block of each region is looked for.
+pub struct Positions {
     pub worktree: usize,
     pub common: usize,
     pub packed: usize,
+}
+
+// The listing's state: positions, whether it is ended, and the namespace's expansion, empty where there is none.
+pub struct Listing {
+    pub at: Positions,
     pub ended: bool,
     pub expansion: Name,
 }
@@ -82,10 +90,13 @@ pub struct Opened {
 fn fresh(expansion: Name) -> Listing
     ensures { λ s. ⌜ state-of s ≡ start (content expansion) ⌝ }
 {
-    Listing {
+    let at = Positions {
         worktree: 0,
         common: 0,
         packed: 0,
+    };
+    Listing {
+        at,
         ended: false,
         expansion,
     }
@@ -301,34 +312,10 @@ fn is_name(left: Left) -> bool
     }
 }
 
-// The block that is handed out, if one is.
-enum Offer {
-    Nothing,
-    From { region: Region, at: usize },
-}
-
-// Where the next block of each region is looked for.
-struct Positions {
-    worktree: usize,
-    common: usize,
-    packed: usize,
-}
-
-// What is handed out, and the positions after it.
+// The block that is handed out, if one is, and the positions after it.
 struct Move {
-    given: Offer,
+    given: Place,
     next: Positions,
-}
-
-// A region, of the three.
-fn part<'a>(worktree: &'a [u8], common: &'a [u8], packed: &'a [u8], region: Region) -> &'a [u8]
-    ensures { λ r. ⌜ now r ≡ part-of (now (worktree .entry)) (now (common .entry)) (now (packed .entry)) (region-of region) ⌝ }
-{
-    match region {
-        Region::Worktree => worktree,
-        Region::Common => common,
-        Region::Packed => packed,
-    }
 }
 
 // Is the first of two names below the second, or the same?
@@ -349,8 +336,8 @@ fn least<'a>(
     packed: &'a [u8],
     region: Region,
     w: Waiting,
-    offered: Offer,
-) -> Offer
+    offered: Place,
+) -> Place
     ensures { λ o. ⌜ LeastOf (now (worktree .entry)) (now (common .entry)) (now (packed .entry)) (region-of region) w offered o ⌝ }
 {
     let left = w.left;
@@ -359,15 +346,15 @@ fn least<'a>(
         return offered;
     }
     match offered {
-        Offer::Nothing => Offer::From { region, at },
-        Offer::From {
+        Place::Nowhere => Place::In { region, block: at },
+        Place::In {
             region: other,
-            at: k,
+            block: k,
         } => {
             let n = block_name(part(worktree, common, packed, region), at);
             let m = block_name(part(worktree, common, packed, other), k);
             if is_not_above(compare(n, m)) {
-                return Offer::From { region, at };
+                return Place::In { region, block: at };
             }
             offered
         }
@@ -401,12 +388,12 @@ fn by_name<'a>(
 ) -> Move
     ensures { λ m. ⌜ NameMove (now (worktree .entry)) (now (common .entry)) (now (packed .entry)) w c p at m ⌝ }
 {
-    let third = least(worktree, common, packed, Region::Packed, p, Offer::Nothing);
+    let third = least(worktree, common, packed, Region::Packed, p, Place::Nowhere);
     let second = least(worktree, common, packed, Region::Common, c, third);
     let given = least(worktree, common, packed, Region::Worktree, w, second);
     match given {
-        Offer::Nothing => Move { given, next: at },
-        Offer::From { region, at: k } => {
+        Place::Nowhere => Move { given, next: at },
+        Place::In { region, block: k } => {
             let n = block_name(part(worktree, common, packed, region), k);
             let next = Positions {
                 worktree: past(n, worktree, w, at.worktree),
@@ -422,7 +409,10 @@ fn by_name<'a>(
 fn error_in(region: Region, w: Waiting, at: Positions) -> Move
     ensures { λ m. ⌜ ErrorMove (region-of region) w at m ⌝ }
 {
-    let given = Offer::From { region, at: w.at };
+    let given = Place::In {
+        region,
+        block: w.at,
+    };
     let next = match region {
         Region::Worktree => Positions {
             worktree: w.next,
@@ -470,65 +460,26 @@ fn choose<'a>(
     by_name(worktree, common, packed, w, c, p, at)
 }
 
-// The region of the block that is handed out: an empty one, where none is.
-fn region_in<'a>(worktree: &'a [u8], common: &'a [u8], packed: &'a [u8], given: Offer) -> &'a [u8]
-    ensures { λ r. ⌜ now r ≡ offer-bytes (now (worktree .entry)) (now (common .entry)) (now (packed .entry)) given ⌝ }
-{
-    match given {
-        Offer::Nothing => &packed[0..0],
-        Offer::From { region, at: _ } => part(worktree, common, packed, region),
-    }
-}
-
-// Its number there.
-fn block_in(given: Offer) -> usize
-    ensures { λ k. ⌜ k ≡ offer-at given ⌝ }
-{
-    match given {
-        Offer::Nothing => 0,
-        Offer::From { region: _, at } => at,
-    }
-}
-
-// What it holds.
-fn kind_in<'a>(worktree: &'a [u8], common: &'a [u8], packed: &'a [u8], given: Offer) -> EntryKind
+// What the block that is handed out holds.
+fn kind_in<'a>(worktree: &'a [u8], common: &'a [u8], packed: &'a [u8], given: Place) -> EntryKind
     ensures { λ r. ⌜ OfferKind (now (worktree .entry)) (now (common .entry)) (now (packed .entry)) given r ⌝ }
 {
     match given {
-        Offer::Nothing => EntryKind::End,
-        Offer::From { region, at } => entry_kind(
+        Place::Nowhere => EntryKind::End,
+        Place::In { region, block } => entry_kind(
             part(worktree, common, packed, region),
             region,
-            at,
+            block,
         ),
     }
 }
 
 // What it says.
-fn said_of<'a>(worktree: &'a [u8], common: &'a [u8], packed: &'a [u8], given: Offer) -> Said
+fn said_of<'a>(worktree: &'a [u8], common: &'a [u8], packed: &'a [u8], given: Place) -> Said
     ensures { λ s. ⌜ OfferSaid (now (worktree .entry)) (now (common .entry)) (now (packed .entry)) given s ⌝ }
 {
-    let region = region_in(worktree, common, packed, given);
-    let k = block_in(given);
     let kind = kind_in(worktree, common, packed, given);
-    says(kind, block_content(region, k))
-}
-
-// The reference that it says, under its own name.
-fn reference_of<'a>(
-    worktree: &'a [u8],
-    common: &'a [u8],
-    packed: &'a [u8],
-    given: Offer,
-    said: Said,
-    e: &[u8],
-) -> Reference
-    ensures { λ r. ⌜ OfferReference (now (e .entry)) (now (worktree .entry)) (now (common .entry)) (now (packed .entry)) given said r ⌝ }
-{
-    let region = region_in(worktree, common, packed, given);
-    let k = block_in(given);
-    let own = block_name(region, k);
-    reference_with(said, own, own, block_content(region, k), e)
+    says(kind, content_in(worktree, common, packed, given))
 }
 
 // What a step answers: refused 1 or 2, or an entry, refused 6 to 12, or the end.
@@ -538,13 +489,6 @@ pub enum Listed {
     Entry,
     Refused(Reason),
     Ended,
-}
-
-// A step; the reference counts where the answer is an entry.
-pub struct Stepped {
-    pub answer: Listed,
-    pub reference: Reference,
-    pub next: Listing,
 }
 
 // The answer of a step that was not turned away.
@@ -570,7 +514,7 @@ fn is_end(outcome: Outcome) -> bool
 }
 
 // What is handed out in regions of right sizes, and the positions after it.
-fn advance<'a>(
+fn move_in<'a>(
     worktree: &'a [u8],
     common: &'a [u8],
     packed: &'a [u8],
@@ -599,11 +543,11 @@ fn move_of<'a>(
 {
     if stays(sizes, ended) {
         return Move {
-            given: Offer::Nothing,
+            given: Place::Nowhere,
             next: at,
         };
     }
-    advance(worktree, common, packed, e, at)
+    move_in(worktree, common, packed, e, at)
 }
 
 fn stays(sizes: Sizes, ended: bool) -> bool
@@ -638,8 +582,57 @@ fn ended_after(sizes: Sizes, ended: bool, outcome: Outcome) -> bool
     }
 }
 
-// One step (LooseThenPacked::next): it looks no further in a region than what waits there. One way through it, whatever is
-// answered: a step is too large to be put together in several places.
+// A step by the block that it hands out, with the kind of target that this has and whether it has a peeled id, where the answer
+// is an entry; and where the listing is after it. So nothing is copied.
+pub struct Advanced {
+    pub answer: Listed,
+    pub given: Place,
+    pub kind: Kind,
+    pub has_peeled: bool,
+    pub next: Positions,
+    pub ended: bool,
+}
+
+// One step (LooseThenPacked::next) of a listing whose namespace has the expansion e: it looks no further in a region than what
+// waits there.
+pub fn advance<'a>(
+    at: Positions,
+    ended: bool,
+    e: &[u8],
+    worktree: &'a [u8],
+    common: &'a [u8],
+    has_common: bool,
+    packed: &'a [u8],
+) -> Advanced
+    ensures { λ a. ⌜ advanced (now (e .entry)) (now (worktree .entry)) (or-empty (if-there «has_common» (now (common .entry)))) (now (packed .entry)) a ≡ step id-width (snapshot-of (now (worktree .entry)) (if-there «has_common» (now (common .entry))) (now (packed .entry))) (record { at = positions-of at; ended = ended; expansion = now (e .entry) }) ⌝ }
+{
+    let sizes = size_check(worktree, common, has_common, packed);
+    let shared = or_empty(common, has_common);
+    let m = move_of(sizes, ended, worktree, shared, packed, e, at);
+    let given = m.given;
+    let said = said_of(worktree, shared, packed, given);
+    let outcome = said.outcome;
+    let answer = listed_after(sizes, outcome);
+    let kind = said.kind;
+    let next = m.next;
+    Advanced {
+        answer,
+        given,
+        kind,
+        has_peeled: said.has_peeled,
+        next,
+        ended: ended_after(sizes, ended, outcome),
+    }
+}
+
+// A step; the reference counts where the answer is an entry.
+pub struct Stepped {
+    pub answer: Listed,
+    pub reference: Reference,
+    pub next: Listing,
+}
+
+// One step from a state. One way through it, whatever is answered: a step is too large to be put together in several places.
 pub fn step<'a>(
     state: Listing,
     worktree: &'a [u8],
@@ -649,28 +642,25 @@ pub fn step<'a>(
 ) -> Stepped
     ensures { λ s. ⌜ step-of s ≡ step id-width (snapshot-of (now (worktree .entry)) (if-there «has_common» (now (common .entry))) (now (packed .entry))) (state-of state) ⌝ }
 {
-    let sizes = size_check(worktree, common, has_common, packed);
-    let shared = or_empty(common, has_common);
-    let at = Positions {
-        worktree: state.worktree,
-        common: state.common,
-        packed: state.packed,
-    };
-    let ended = state.ended;
+    let at = state.at;
     let len = state.expansion.len;
     let e = lend(&state.expansion.bytes, len);
-    let m = move_of(sizes, ended, worktree, shared, packed, e, at);
-    let given = m.given;
-    let said = said_of(worktree, shared, packed, given);
-    let reference = reference_of(worktree, shared, packed, given, said, e);
-    let outcome = said.outcome;
-    let now_ended = ended_after(sizes, ended, outcome);
+    let a = advance(at, state.ended, e, worktree, common, has_common, packed);
+    let shared = or_empty(common, has_common);
+    let given = a.given;
+    let kind = a.kind;
+    let reference = reference_with(
+        kind,
+        a.has_peeled,
+        name_in(worktree, shared, packed, given),
+        content_in(worktree, shared, packed, given),
+        e,
+    );
+    let after = a.next;
     let mut next = state;
-    next.worktree = m.next.worktree;
-    next.common = m.next.common;
-    next.packed = m.next.packed;
-    next.ended = now_ended;
-    let answer = listed_after(sizes, outcome);
+    next.at = after;
+    next.ended = a.ended;
+    let answer = a.answer;
     Stepped {
         answer,
         reference,

@@ -7,9 +7,9 @@ ghost use Rattle.names.specs.Name.{longest};
 ghost use Rattle.blocks.specs.Layout.{longest-content};
 ghost use Rattle.blocks.specs.Content.{read};
 ghost use Rattle.blocks.specs.Means.{id-width, refusal-number};
-ghost use Rattle.refs.specs.Answer.{nothing, found, refused, reading-says, strip-reference};
-ghost use Rattle.refs.specs.Means.{reason-number, reference-of};
-ghost use Rattle.refs.specs.Promises.{packed-reference, said-reference, said-answer, SaidBy, TargetPart};
+ghost use Rattle.refs.specs.Answer.{nothing, found, refused, reading-says};
+ghost use Rattle.refs.specs.Means.{reason-number, reference-of, target-part, block-reference};
+ghost use Rattle.refs.specs.Promises.{packed-reference, said-answer, SaidBy};
 use blocks::block::EntryKind;
 use blocks::decode::Refusal;
 use blocks::decode::TargetKind;
@@ -165,15 +165,15 @@ pub(crate) fn says(entry: EntryKind, file: &[u8]) -> Said
 }
 
 // A loose file answers under the name n, a record under its own.
-fn answer_name<'a>(n: &'a [u8], own: &'a [u8], from_packed: bool) -> &'a [u8]
+pub(crate) fn answer_name<'a>(n: &'a [u8], own: &'a [u8], from_packed: bool) -> &'a [u8]
     ensures { λ r. ⌜ now r ≡ (if «from_packed» then now (own .entry) else now (n .entry)) ⌝ }
 {
     if from_packed { own } else { n }
 }
 
 // The target's name in a content: none for an object.
-fn target_part(kind: Kind, file: &[u8]) -> &[u8]
-    ensures { λ r. ⌜ TargetPart kind (now (file .entry)) (now r) × (length (now r) ≤ length (now (file .entry))) ⌝ }
+pub fn target_part(kind: Kind, file: &[u8]) -> &[u8]
+    ensures { λ r. ⌜ now r ≡ target-part kind (now (file .entry)) ⌝ }
 {
     match kind {
         Kind::Object => &file[0..0],
@@ -181,19 +181,18 @@ fn target_part(kind: Kind, file: &[u8]) -> &[u8]
     }
 }
 
-// The reference that a block says, without the namespace's expansion e in front of name and symbolic target. Its bytes are put in
-// place once: it is too large to be handed on in parts.
-pub(crate) fn reference_with<'a>(
-    said: Said,
-    n: &'a [u8],
-    own: &'a [u8],
+// The reference of a name and a content, without the namespace's expansion e in front of name and symbolic target. Its bytes
+// are put in place once: it is too large to be handed on in parts.
+pub(crate) fn reference_with(
+    kind: Kind,
+    has_peeled: bool,
+    n: &[u8],
     file: &[u8],
     e: &[u8],
 ) -> Reference
-    requires { ⌜ (length (now n) ≤ longest) × (length (now own) ≤ longest) × (length (now file) ≤ longest-content) ⌝ }
-    ensures { λ r. ⌜ reference-of r ≡ strip-reference (now (e .entry)) (said-reference said (now (n .entry)) (now (own .entry)) (now (file .entry))) ⌝ }
+    requires { ⌜ (length (now n) ≤ longest) × (length (now file) ≤ longest-content) ⌝ }
+    ensures { λ r. ⌜ reference-of r ≡ block-reference (now (e .entry)) kind «has_peeled» (now (n .entry)) (now (file .entry)) ⌝ }
 {
-    let kind = said.kind;
     let name = empty();
     let target = empty();
     let id = id_of(file);
@@ -203,13 +202,10 @@ pub(crate) fn reference_with<'a>(
         kind,
         id,
         target,
-        has_peeled: said.has_peeled,
+        has_peeled,
         peeled,
     };
-    let name_len = fill(
-        &mut r.name.bytes,
-        without(answer_name(n, own, said.from_packed), e),
-    );
+    let name_len = fill(&mut r.name.bytes, without(n, e));
     r.name.len = name_len;
     let target_len = fill(&mut r.target.bytes, without(target_part(kind, file), e));
     r.target.len = target_len;

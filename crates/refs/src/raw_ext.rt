@@ -128,8 +128,8 @@ fn follow_from<'a>(
         let len = last.target.len;
         let target = lend(&last.target.bytes, len);
         let h = find_one_with_verified_input(worktree, common, has_common, packed, e, target);
-        let source = h.source;
-        let said = said_of(worktree, common, packed, source);
+        let place = h.place;
+        let said = said_of(worktree, common, packed, place);
         let outcome = said.outcome;
         if !is_found(outcome) {
             return ended(ending_of(outcome), last);
@@ -176,8 +176,8 @@ fn follow_to_object<'a>(
     ensures { λ t. ⌜ trail-of t ≡ following-of (now (e .entry)) (snapshot-of (now (worktree .entry)) (if-there «has_common» (now (common .entry))) (now (packed .entry))) (now (x .entry)) ⌝ }
 {
     let h = find_one_with_verified_input(worktree, common, has_common, packed, e, x);
-    let source = h.source;
-    let said = said_of(worktree, common, packed, source);
+    let place = h.place;
+    let said = said_of(worktree, common, packed, place);
     let outcome = said.outcome;
     let reference = reference_of(worktree, common, packed, e, h, said);
     if !is_found(outcome) {

@@ -2,7 +2,7 @@
 use mathlib.Core.Path.{_≡_, refl, sym}
 use mathlib.Core.Bool.{Bool, true, false, _&&_}
 use mathlib.Core.List.{[], _∷_}
-use mathlib.Core.Option.{Option, none, some}
+use mathlib.Core.Option.{none, some}
 use Prim.Native.Nat.{ℕ, suc, _+_, _*_, _-_, _≤_, _<_}
 use native.Mathlib.Omega.{arith}
 use borrow.Author.Tests.{le-leb, lt-leb, leb-true, leb-false}
@@ -11,6 +11,7 @@ use lib.Dec.{leb}
 use lib.ListN.{length, drop, getD, drop-of-length-le}
 use lib.Seq.{drop-cons}
 use Rattle.names.specs.Bytes.{Bytes, if_then_else_, every}
+use Rattle.names.proofs.Walks.{every-none, every-more}
 use Rattle.replay.specs.Input.{largest, is-decimal, digits-behind, number-behind, read-in}
 use Rattle.replay.specs.declared.input.Number.{Number}
 
@@ -35,8 +36,8 @@ module _ (b : ℕ) where
 
 module _ (v b : ℕ) (s : Bytes) where
   pub no-digit : is-decimal b ≡ false → number-behind v (b ∷ s) ≡ none
-  unfolding number-behind every
-  no-digit h = rw h
+  unfolding number-behind
+  no-digit h = rw (every-more is-decimal b s, h)
 
   pub too-large : largest < v * 10 + (b - 48) → number-behind v (b ∷ s) ≡ none
   unfolding number-behind digits-behind
@@ -50,13 +51,13 @@ module _ (v b : ℕ) (s : Bytes) where
       falls false = refl
 
   pub goes-on : is-decimal b ≡ true → number-behind v (b ∷ s) ≡ number-behind (v * 10 + (b - 48)) s
-  unfolding number-behind digits-behind every
-  goes-on h = rw h
+  unfolding number-behind digits-behind
+  goes-on h = rw (every-more is-decimal b s, h)
 
 -- no digit behind v
 pub nothing-behind : (v : ℕ) → v ≤ largest → number-behind v [] ≡ some v
-unfolding number-behind digits-behind every
-nothing-behind v h = rw (le-leb v largest h)
+unfolding number-behind digits-behind
+nothing-behind v h = rw (every-none is-decimal, le-leb v largest h)
 
 module _ (v b : ℕ) (s : Bytes) where
   -- what one digit says holds for all that follow

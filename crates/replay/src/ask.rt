@@ -9,7 +9,6 @@ use crate::input::read_number;
 use crate::input::read_optional;
 use crate::input::second_field;
 use crate::input::third_field;
-use crate::listing::Places;
 use crate::listing::ask_listing;
 use crate::listing::ask_step;
 use crate::output::ROOM;
@@ -24,6 +23,7 @@ use crate::text::ask_of_two;
 use blocks::block::Region;
 use names::bytes::equal;
 use names::name::lend;
+use refs::overlay_iter::Positions;
 
 // list K.
 fn ask_list<'a>(
@@ -142,12 +142,12 @@ fn ask_stepping<'a>(
     if !(w.ok && c.ok && p.ok) {
         return put_unknown(out, n);
     }
-    let from = Places {
+    let at = Positions {
         worktree: w.value,
         common: c.value,
         packed: p.value,
     };
-    ask_step(kept, worktree, common, packed, namespace, from, out, n)
+    ask_step(kept, worktree, common, packed, namespace, at, out, n)
 }
 
 // The answer to a line that sets nothing. `a` and `b` are room for its byte strings.

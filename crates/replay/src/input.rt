@@ -6,7 +6,7 @@ ghost use mathlib.Core.Option.{none};
 ghost use Prim.Native.Nat.{_+_, _*_, _/_, _≤_, _<_};
 ghost use lib.ListN.{length, take};
 ghost use Rattle.names.specs.Bytes.{every};
-ghost use Rattle.replay.specs.Input.{most, is-digit, digit-value, pairs, is-pairs, Reads, largest, number-behind, number-in, read-in};
+ghost use Rattle.replay.specs.Input.{is-digit, digit-value, pairs, is-pairs, Reads, number-behind, number-in, read-in};
 
 // The longest byte string: 40 blocks and one byte.
 pub(crate) const MOST: usize = 20481;

@@ -14,6 +14,7 @@ use names::namespace::expand;
 use refs::overlay_iter::Listed;
 use refs::overlay_iter::Listing;
 use refs::overlay_iter::Opening;
+use refs::overlay_iter::Positions;
 use refs::overlay_iter::is_opened;
 use refs::overlay_iter::open;
 use refs::overlay_iter::step;
@@ -22,9 +23,9 @@ use refs::raw::reason_number;
 
 fn put_positions(out: &mut [u8; ROOM], n: usize, state: Listing) -> usize {
     let word_end = put(out, n, b" at");
-    let worktree_end = put_number(out, word_end, state.worktree);
-    let common_end = put_number(out, worktree_end, state.common);
-    let packed_end = put_number(out, common_end, state.packed);
+    let worktree_end = put_number(out, word_end, state.at.worktree);
+    let common_end = put_number(out, worktree_end, state.at.common);
+    let packed_end = put_number(out, common_end, state.at.packed);
     put(out, packed_end, b"\n")
 }
 
@@ -124,13 +125,6 @@ pub(crate) fn ask_listing<'a>(
     put_steps(kept, worktree, common, packed, state, count, out, n)
 }
 
-// The positions that a step starts from.
-pub(crate) struct Places {
-    pub worktree: usize,
-    pub common: usize,
-    pub packed: usize,
-}
-
 // The expansion of the namespace, empty where there is none; not ok where it is refused.
 struct Scope {
     ok: bool,
@@ -168,7 +162,7 @@ pub(crate) fn ask_step<'a>(
     common: &'a [u8],
     packed: &'a [u8],
     namespace: &[u8],
-    from: Places,
+    at: Positions,
     out: &mut [u8; ROOM],
     n: usize,
 ) -> usize {
@@ -187,9 +181,7 @@ pub(crate) fn ask_step<'a>(
     }
     let expansion = scope.expansion;
     let state = Listing {
-        worktree: from.worktree,
-        common: from.common,
-        packed: from.packed,
+        at,
         ended: false,
         expansion,
     };

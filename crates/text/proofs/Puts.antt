@@ -3,10 +3,11 @@ use mathlib.Core.Path.{_≡_, refl, ap, sym, _∙_}
 use Prim.Native.Nat.{ℕ, _+_, _≤_}
 use native.Mathlib.Omega.{arith}
 use mathlib.Core.List.{[], _++_, append-assoc, append-nil}
-use lib.ListN.{length, take, length-drop, length-append}
+use lib.ListN.{length, take, length-append}
 use Rattle.names.specs.Bytes.{Bytes}
 use Rattle.names.specs.Name.{longest}
 use Rattle.names.specs.Category.{short-name}
+use Rattle.names.proofs.Classes.{short-length}
 use Rattle.output.specs.Pasted.{Put}
 use Rattle.text.specs.Promises.{PutWithin}
 
@@ -42,5 +43,4 @@ put-nothing b at most = record { put = record { text = sym (append-nil (take at 
 
 -- a short name is no longer than the name
 pub short-small : (s n : Bytes) → s ≡ short-name n → length n ≤ longest → length s ≤ longest
-unfolding short-name
-short-small s n e h = rw e (simp length-drop (omega (arith, h)))
+short-small s n e h = rw e (omega (arith, short-length n, h))

@@ -17,6 +17,7 @@ use Rattle.refs.specs.Answer.{Reference, Answer}
 use Rattle.refs.specs.declared.overlay_iter.Listed.{Listed}
 use Rattle.refs.specs.declared.overlay_iter.Listed.the-variants as listed
 use Rattle.refs.specs.declared.overlay_iter.Stepped.{Stepped}
+use Rattle.refs.proofs.Moves.{run-none, run-more}
 use Rattle.text.specs.Text.{tab, newline, decimal}
 use Rattle.text.specs.Reflist.{most-listed, answer-line, answer-lines, line-weight, line-count, end-line, listed-text, block-total}
 use Rattle.output.specs.Pasted.{Put}
@@ -31,20 +32,20 @@ abbrev pub counted : Snapshot → ℕ → State → ℕ
 counted s n st = line-count (run id-width s n st .answers)
 
 first-line : (s : Snapshot) (n : ℕ) (st : State) → lines s (suc n) st ≡ answer-line (step id-width s st .answer) ++ lines s n (step id-width s st .next)
-unfolding run answer-lines
-first-line s n st = refl
+unfolding answer-lines
+first-line s n st = rw (run-more id-width s n st)
 
 first-counted : (s : Snapshot) (n : ℕ) (st : State) → counted s (suc n) st ≡ line-weight (step id-width s st .answer) + counted s n (step id-width s st .next)
-unfolding run line-count
-first-counted s n st = refl
+unfolding line-count
+first-counted s n st = rw (run-more id-width s n st)
 
 no-lines : (s : Snapshot) (st : State) → lines s 0 st ≡ []
-unfolding run answer-lines
-no-lines s st = refl
+unfolding answer-lines
+no-lines s st = rw (run-none id-width s st)
 
 none-counted : (s : Snapshot) (st : State) → counted s 0 st ≡ 0
-unfolding run line-count
-none-counted s st = refl
+unfolding line-count
+none-counted s st = rw (run-none id-width s st)
 
 pub weight-small : (a : Listed) → listed-weight a ≤ 1
 weight-small listed.NotWhole = omega arith

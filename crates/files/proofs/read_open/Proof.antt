@@ -8,7 +8,6 @@ use lib.Signed.{yes-nonNeg, ltZ-no, natAbs-le}
 use mir.Syntax.{w64}
 use mir.Val.{Fits, toZ, ofZ}
 use mir.ValLaws.{toZ-ofZ}
-use native.Mathlib.Omega.{arith}
 use borrow.Author.Needs.{needs}
 use Rattle.files.proofs.read_open.Statement.{statement}
 use Rattle.files.proofs.read_open.Tie as tie

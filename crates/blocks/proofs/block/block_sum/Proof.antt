@@ -1,6 +1,7 @@
 -- The parts that are read are those that may hold other bytes than 0.
 use native.Mathlib.Omega.{arith}
-use Rattle.blocks.proofs.Sums.{name-short, content-short, used-within}
+use Rattle.blocks.proofs.Sums.{used-within}
+use Rattle.blocks.proofs.Parts.{name-within-short, content-within-short}
 use borrow.Author.Needs.{needs}
 use Rattle.blocks.proofs.block.block_sum.Statement.{statement}
 use Rattle.blocks.proofs.block.block_sum.Tie as tie
@@ -24,7 +25,7 @@ cast-part-sum : tie.Need-cast-part-sum
 cast-part-sum c = search needs
 
 part-sum-requires-2 : tie.Need-part-sum-requires-2
-part-sum-requires-2 c κs = (name-short _ (c .before .before .before .before .pre .0) _ (c .name-part .ensures), omega arith)
+part-sum-requires-2 c κs = (rw (c .name-part .ensures) (name-within-short _), omega arith)
 
 add-result : tie.Need-add-result
 add-result c = search needs
@@ -36,7 +37,7 @@ cast-part-sum-2 : tie.Need-cast-part-sum-2
 cast-part-sum-2 c = search needs
 
 part-sum-requires-3 : tie.Need-part-sum-requires-3
-part-sum-requires-3 c κs = (content-short _ (c .before .before .before .before .before .before .pre .0) _ (c .content-part .ensures), omega arith)
+part-sum-requires-3 c κs = (rw (c .content-part .ensures) (content-within-short _), omega arith)
 
 add-result-2 : tie.Need-add-result-2
 add-result-2 c = search needs

@@ -40,9 +40,9 @@ same-length c = search needs
 
 returns-3 : tie.Need-returns-3
 returns-3 c =
-    let args = c .before .before .before .before .before .before .before .before .before .before .before .before .before .before .before .before .before .args in
-    let o = c .before .before .before .before .before .before .before .before .before .before .«open» in
-    open-gives (open-listing (snapshot-of (args .worktree .now) (if-there (args .has-common) (args .common .now)) (args .packed .now)) (if-there (args .has-namespace) (args .namespace .now))) (opening-check (o .result .opening)) (state-of (o .result .state)) (omega (arith, c .before .before .before .before .before .before .before .before .before .before .before .if1 .left)) (o .ensures) (sym (c .before .before .before .before .before .before .before .before .before .is-opened .ensures) ∙ not-false _ (c .before .before .before .before .before .before .before .before .if2 .left)) (rw (c .before .before .before .lend .ensures) at (c .before .before .put-state .ensures))
+    let args = c .before .before .before .before .before .before .before .before .before .before .before .before .before .before .before .before .before .before .before .args in
+    let o = c .before .before .before .before .before .before .before .before .before .before .before .before .«open» in
+    open-gives (open-listing (snapshot-of (args .worktree .now) (if-there (args .has-common) (args .common .now)) (args .packed .now)) (if-there (args .has-namespace) (args .namespace .now))) (opening-check (o .result .opening)) (state-of (o .result .state)) (omega (arith, c .before .before .before .before .before .before .before .before .before .before .before .before .before .if1 .left)) (o .ensures) (sym (c .before .before .before .before .before .before .before .before .before .before .before .is-opened .ensures) ∙ not-false _ (c .before .before .before .before .before .before .before .before .before .before .if2 .left)) (rw (c .before .before .before .lend .ensures) at (c .before .before .put-state .ensures))
 
 pub cosvint-list-open-spec : {M : Type 1} → statement M
 cosvint-list-open-spec =

@@ -1,7 +1,8 @@
-use mathlib.Core.Path.{ap, _∙_}
+use mathlib.Core.Path.{ap, sym, _∙_}
 use mathlib.Core.Option.{none, some}
-use Rattle.names.specs.Namespace.{expand, expanded, names-check}
-use Rattle.capi.specs.Report.{check-number}
+use Rattle.names.specs.Namespace.{expand, names-check}
+use Rattle.names.proofs.Rows.{expanded-is}
+use Rattle.capi.specs.Report.{check-number, checked-number}
 use Rattle.capi.proofs.Calls.{number-of}
 use borrow.Author.Needs.{needs}
 use Rattle.capi.proofs.validate.cosvint_namespace.Statement.{statement}
@@ -14,10 +15,9 @@ verdict-number-requires : tie.Need-verdict-number-requires
 verdict-number-requires c κs = search needs
 
 returns : tie.Need-returns
-unfolding expanded
 returns c =
     let s = c .before .before .before .args .namespace .now in
-    c .verdict-number .ensures ∙ ap check-number (c .before .check-namespace .ensures) ∙ number-of (names-check none (some s)) (expand s)
+    c .verdict-number .ensures ∙ ap check-number (c .before .check-namespace .ensures) ∙ number-of (names-check none (some s)) (expand s) ∙ ap checked-number (sym (expanded-is s))
 
 pub cosvint-namespace-spec : {M : Type 1} → statement M
 cosvint-namespace-spec =

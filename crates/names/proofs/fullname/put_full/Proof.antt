@@ -1,4 +1,5 @@
 -- One prefix for each category.
+use Rattle.names.specs.Bytes.{starts-with, strip}
 use borrow.Author.Needs.{needs}
 use Rattle.names.proofs.fullname.put_full.Statement.{statement}
 use Rattle.names.proofs.fullname.put_full.Tie as tie
@@ -33,29 +34,20 @@ put-prefixed-requires-3 c κs = search needs
 enum-told-4 : tie.Need-enum-told-4
 enum-told-4 c = search needs
 
-slice-aggregate-put-prefixed-4 : tie.Need-slice-aggregate-put-prefixed-4
-slice-aggregate-put-prefixed-4 c = search needs
+slice-aggregate-put-kept : tie.Need-slice-aggregate-put-kept
+slice-aggregate-put-kept c = search needs
 
-slice-aggregate-without : tie.Need-slice-aggregate-without
-slice-aggregate-without c = search needs
-
-without-requires : tie.Need-without-requires
-without-requires c κs = search needs
-
-put-prefixed-requires-4 : tie.Need-put-prefixed-requires-4
-put-prefixed-requires-4 c κs = search needs
+put-kept-requires : tie.Need-put-kept-requires
+put-kept-requires c κs = search needs
 
 enum-told-5 : tie.Need-enum-told-5
 enum-told-5 c = search needs
 
-slice-aggregate-put-joined : tie.Need-slice-aggregate-put-joined
-slice-aggregate-put-joined c = search needs
+slice-aggregate-put-prefixed-4 : tie.Need-slice-aggregate-put-prefixed-4
+slice-aggregate-put-prefixed-4 c = search needs
 
-slice-aggregate-put-joined-2 : tie.Need-slice-aggregate-put-joined-2
-slice-aggregate-put-joined-2 c = search needs
-
-put-joined-requires : tie.Need-put-joined-requires
-put-joined-requires c κs = search needs
+put-prefixed-requires-4 : tie.Need-put-prefixed-requires-4
+put-prefixed-requires-4 c κs = search needs
 
 enum-told-6 : tie.Need-enum-told-6
 enum-told-6 c = search needs
@@ -72,11 +64,11 @@ enum-told-7 c = search needs
 slice-aggregate-put-prefixed-6 : tie.Need-slice-aggregate-put-prefixed-6
 slice-aggregate-put-prefixed-6 c = search needs
 
-slice-aggregate-without-2 : tie.Need-slice-aggregate-without-2
-slice-aggregate-without-2 c = search needs
+slice-aggregate-without : tie.Need-slice-aggregate-without
+slice-aggregate-without c = search needs
 
-without-requires-2 : tie.Need-without-requires-2
-without-requires-2 c κs = search needs
+without-requires : tie.Need-without-requires
+without-requires c κs = search needs
 
 put-prefixed-requires-6 : tie.Need-put-prefixed-requires-6
 put-prefixed-requires-6 c κs = search needs
@@ -96,47 +88,29 @@ put-linked-requires-2 c κs = search needs
 enum-told-10 : tie.Need-enum-told-10
 enum-told-10 c = search needs
 
-slice-aggregate-put-prefixed-7 : tie.Need-slice-aggregate-put-prefixed-7
-slice-aggregate-put-prefixed-7 c = search needs
+slice-aggregate-put-kept-2 : tie.Need-slice-aggregate-put-kept-2
+slice-aggregate-put-kept-2 c = search needs
 
-slice-aggregate-without-3 : tie.Need-slice-aggregate-without-3
-slice-aggregate-without-3 c = search needs
-
-without-requires-3 : tie.Need-without-requires-3
-without-requires-3 c κs = search needs
-
-put-prefixed-requires-7 : tie.Need-put-prefixed-requires-7
-put-prefixed-requires-7 c κs = search needs
+put-kept-requires-2 : tie.Need-put-kept-requires-2
+put-kept-requires-2 c κs = search needs
 
 enum-told-11 : tie.Need-enum-told-11
 enum-told-11 c = search needs
 
-slice-aggregate-put-prefixed-8 : tie.Need-slice-aggregate-put-prefixed-8
-slice-aggregate-put-prefixed-8 c = search needs
+slice-aggregate-put-kept-3 : tie.Need-slice-aggregate-put-kept-3
+slice-aggregate-put-kept-3 c = search needs
 
-slice-aggregate-without-4 : tie.Need-slice-aggregate-without-4
-slice-aggregate-without-4 c = search needs
-
-without-requires-4 : tie.Need-without-requires-4
-without-requires-4 c κs = search needs
-
-put-prefixed-requires-8 : tie.Need-put-prefixed-requires-8
-put-prefixed-requires-8 c κs = search needs
+put-kept-requires-3 : tie.Need-put-kept-requires-3
+put-kept-requires-3 c κs = search needs
 
 enum-told-12 : tie.Need-enum-told-12
 enum-told-12 c = search needs
 
-slice-aggregate-put-prefixed-9 : tie.Need-slice-aggregate-put-prefixed-9
-slice-aggregate-put-prefixed-9 c = search needs
+slice-aggregate-put-kept-4 : tie.Need-slice-aggregate-put-kept-4
+slice-aggregate-put-kept-4 c = search needs
 
-slice-aggregate-without-5 : tie.Need-slice-aggregate-without-5
-slice-aggregate-without-5 c = search needs
-
-without-requires-5 : tie.Need-without-requires-5
-without-requires-5 c κs = search needs
-
-put-prefixed-requires-9 : tie.Need-put-prefixed-requires-9
-put-prefixed-requires-9 c κs = search needs
+put-kept-requires-4 : tie.Need-put-kept-requires-4
+put-kept-requires-4 c κs = search needs
 
 returns : tie.Need-returns
 returns c = rw (c .before .before .before .enum-told .given .1) (c .put-prefixed .ensures)
@@ -148,16 +122,18 @@ returns-3 : tie.Need-returns-3
 returns-3 c = rw (c .before .before .before .enum-told3 .given .1) (c .put-prefixed3 .ensures)
 
 returns-4 : tie.Need-returns-4
-returns-4 c = rw (c .before .before .before .before .before .enum-told4 .given .1, ← c .before .without .ensures) (c .put-prefixed4 .ensures)
+unfolding strip starts-with
+returns-4 c = rw (c .before .before .before .enum-told4 .given .1) (c .put-kept .ensures)
 
 returns-5 : tie.Need-returns-5
-returns-5 c = rw (c .before .before .before .before .enum-told5 .given .1) (c .put-joined .ensures)
+unfolding starts-with
+returns-5 c = rw (c .before .before .before .enum-told5 .given .1) (c .put-prefixed4 .ensures)
 
 returns-6 : tie.Need-returns-6
 returns-6 c = rw (c .before .before .before .enum-told6 .given .1) (c .put-prefixed5 .ensures)
 
 returns-7 : tie.Need-returns-7
-returns-7 c = rw (c .before .before .before .before .before .enum-told7 .given .1, ← c .before .without2 .ensures) (c .put-prefixed6 .ensures)
+returns-7 c = rw (c .before .before .before .before .before .enum-told7 .given .1, ← c .before .without .ensures) (c .put-prefixed6 .ensures)
 
 returns-8 : tie.Need-returns-8
 returns-8 c = rw (c .before .before .enum-told8 .given .1) (c .put-linked .ensures)
@@ -166,13 +142,16 @@ returns-9 : tie.Need-returns-9
 returns-9 c = rw (c .before .before .enum-told9 .given .1) (c .put-linked2 .ensures)
 
 returns-10 : tie.Need-returns-10
-returns-10 c = rw (c .before .before .before .before .before .enum-told10 .given .1, ← c .before .without3 .ensures) (c .put-prefixed7 .ensures)
+unfolding strip starts-with
+returns-10 c = rw (c .before .before .before .enum-told10 .given .1) (c .put-kept2 .ensures)
 
 returns-11 : tie.Need-returns-11
-returns-11 c = rw (c .before .before .before .before .before .enum-told11 .given .1, ← c .before .without4 .ensures) (c .put-prefixed8 .ensures)
+unfolding strip starts-with
+returns-11 c = rw (c .before .before .before .enum-told11 .given .1) (c .put-kept3 .ensures)
 
 returns-12 : tie.Need-returns-12
-returns-12 c = rw (c .before .before .before .before .before .enum-told12 .given .1, ← c .before .without5 .ensures) (c .put-prefixed9 .ensures)
+unfolding strip starts-with
+returns-12 c = rw (c .before .before .before .enum-told12 .given .1) (c .put-kept4 .ensures)
 
 pub put-full-spec : {M : Type 1} → statement M
 put-full-spec =
@@ -188,41 +167,32 @@ put-full-spec =
     slice-aggregate-put-prefixed-3
     put-prefixed-requires-3
     enum-told-4
-    slice-aggregate-put-prefixed-4
-    slice-aggregate-without
-    without-requires
-    put-prefixed-requires-4
+    slice-aggregate-put-kept
+    put-kept-requires
     enum-told-5
-    slice-aggregate-put-joined
-    slice-aggregate-put-joined-2
-    put-joined-requires
+    slice-aggregate-put-prefixed-4
+    put-prefixed-requires-4
     enum-told-6
     slice-aggregate-put-prefixed-5
     put-prefixed-requires-5
     enum-told-7
     slice-aggregate-put-prefixed-6
-    slice-aggregate-without-2
-    without-requires-2
+    slice-aggregate-without
+    without-requires
     put-prefixed-requires-6
     enum-told-8
     put-linked-requires
     enum-told-9
     put-linked-requires-2
     enum-told-10
-    slice-aggregate-put-prefixed-7
-    slice-aggregate-without-3
-    without-requires-3
-    put-prefixed-requires-7
+    slice-aggregate-put-kept-2
+    put-kept-requires-2
     enum-told-11
-    slice-aggregate-put-prefixed-8
-    slice-aggregate-without-4
-    without-requires-4
-    put-prefixed-requires-8
+    slice-aggregate-put-kept-3
+    put-kept-requires-3
     enum-told-12
-    slice-aggregate-put-prefixed-9
-    slice-aggregate-without-5
-    without-requires-5
-    put-prefixed-requires-9
+    slice-aggregate-put-kept-4
+    put-kept-requires-4
     returns
     returns-2
     returns-3

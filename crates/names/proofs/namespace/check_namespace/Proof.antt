@@ -23,8 +23,8 @@ returns-2 c =
       not-true (c .before .well-formed .result) (c .if2 .taken),
     )
 
-expansion-len-requires : tie.Need-expansion-len-requires
-expansion-len-requires c κs = search needs
+expansion-fits-requires : tie.Need-expansion-fits-requires
+expansion-fits-requires c κs = search needs
 
 returns-3 : tie.Need-returns-3
 unfolding names-check
@@ -33,8 +33,8 @@ returns-3 c =
       le-leb (length (c .before .before .before .before .before .before .args .s .now)) longest (c .before .before .before .before .if1 .left),
       ← c .before .before .before .well-formed .ensures,
       not-false (c .before .before .before .well-formed .result) (c .before .before .if2 .left),
-      ← c .before .expansion-len .ensures,
-      lt-leb (c .before .expansion-len .result) longest (c .if3 .taken),
+      ← c .before .expansion-fits .ensures,
+      not-true (c .before .expansion-fits .result) (c .if3 .taken),
     )
 
 returns-4 : tie.Need-returns-4
@@ -44,11 +44,11 @@ returns-4 c =
       le-leb (length (c .before .before .before .before .before .before .args .s .now)) longest (c .before .before .before .before .if1 .left),
       ← c .before .before .before .well-formed .ensures,
       not-false (c .before .before .before .well-formed .result) (c .before .before .if2 .left),
-      ← c .before .expansion-len .ensures,
-      le-leb (c .before .expansion-len .result) longest (c .if3 .left),
+      ← c .before .expansion-fits .ensures,
+      not-false (c .before .expansion-fits .result) (c .if3 .left),
     )
 
 pub check-namespace-spec : {M : Type 1} → statement M
 check-namespace-spec =
     tie.close
-    (tie.spec returns well-formed-requires returns-2 expansion-len-requires returns-3 returns-4)
+    (tie.spec returns well-formed-requires returns-2 expansion-fits-requires returns-3 returns-4)

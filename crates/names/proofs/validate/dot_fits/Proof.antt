@@ -17,44 +17,20 @@ returns-3 : tie.Need-returns-3
 returns-3 c =
     rw (dot-at (c .before .before .before .before .args .p) (c .before .before .before .before .args .t .now) (c .before .before .before .before .pre .0) (c .before .before .before .before .pre .1), eq-eqb _ _ (c .if3 .taken), and-false)
 
-slice-aggregate-equal : tie.Need-slice-aggregate-equal
-slice-aggregate-equal c = search needs
-
-equal-requires : tie.Need-equal-requires
-equal-requires c κs = search needs
+lock-ends-requires : tie.Need-lock-ends-requires
+lock-ends-requires c κs = search needs
 
 returns-4 : tie.Need-returns-4
 returns-4 c =
-    rw (dot-at (c .before .before .before .before .before .before .before .args .p) (c .before .before .before .before .before .before .before .args .t .now) (c .before .before .before .before .before .before .before .pre .0) (c .before .before .before .before .before .before .before .pre .1), ← c .before .equal .ensures, c .if4 .taken, and-false)
-
-slice-aggregate-starts-with : tie.Need-slice-aggregate-starts-with
-slice-aggregate-starts-with c = search needs
-
-starts-with-requires : tie.Need-starts-with-requires
-starts-with-requires c κs = search needs
-
-returns-5 : tie.Need-returns-5
-returns-5 c =
     rw (
-      dot-at (c .before .before .before .before .before .before .before .before .before .args .p) (c .before .before .before .before .before .before .before .before .before .args .t .now) (c .before .before .before .before .before .before .before .before .before .pre .0) (c .before .before .before .before .before .before .before .before .before .pre .1),
-      ne-eqb _ _ (c .before .before .before .before .before .before .before .if1 .left),
-      ne-eqb _ _ (c .before .before .before .before .before .before .if2 .left),
-      ne-eqb _ _ (c .before .before .before .before .before .if3 .left),
-      ← c .before .before .before .equal .ensures,
-      c .before .before .if4 .left,
-      ← c .starts-with .ensures,
+      dot-at (c .before .before .before .before .before .args .p) (c .before .before .before .before .before .args .t .now) (c .before .before .before .before .before .pre .0) (c .before .before .before .before .before .pre .1),
+      ne-eqb _ _ (c .before .before .before .if1 .left),
+      ne-eqb _ _ (c .before .before .if2 .left),
+      ne-eqb _ _ (c .before .if3 .left),
+      ← c .lock-ends .ensures,
     )
 
 pub dot-fits-spec : {M : Type 1} → statement M
 dot-fits-spec =
     tie.close
-    (tie.spec
-    returns
-    returns-2
-    returns-3
-    slice-aggregate-equal
-    equal-requires
-    returns-4
-    slice-aggregate-starts-with
-    starts-with-requires
-    returns-5)
+    (tie.spec returns returns-2 returns-3 lock-ends-requires returns-4)

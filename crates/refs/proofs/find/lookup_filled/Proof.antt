@@ -1,5 +1,5 @@
 use Rattle.blocks.specs.Means.{if-there, snapshot-of}
-use Rattle.refs.proofs.Lookups.{no-source}
+use Rattle.refs.proofs.Lookups.{no-place}
 use Rattle.refs.proofs.Searching.{filled-absent, filled-there}
 use borrow.Author.Needs.{needs}
 use Rattle.refs.proofs.find.lookup_filled.Statement.{statement}
@@ -28,7 +28,7 @@ returns c n h =
 returns-2 : tie.Need-returns-2
 returns-2 c n h =
     let args = c .before .before .before .before .before .before .args in
-    no-source (args .e .now) (args .worktree .now) (args .common .now) (args .packed .now) _ _
+    no-place (args .e .now) (args .worktree .now) (args .common .now) (args .packed .now) _ _
     (filled-absent (args .e .now) (snapshot-of (args .worktree .now) (if-there (args .has-common) (args .common .now)) (args .packed .now)) (args .b .now) (args .f) n h (args .seek) (c .enum-told .given .1))
 
 pub lookup-filled-spec : {M : Type 1} → statement M

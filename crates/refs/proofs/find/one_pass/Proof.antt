@@ -27,8 +27,8 @@ try-directories-holds c =
 try-directory-requires : tie.Need-try-directory-requires Inv-try-directories μ-try-directories
 try-directory-requires c κs = search needs
 
-is-source-requires : tie.Need-is-source-requires Inv-try-directories μ-try-directories
-is-source-requires c κs = search needs
+is-somewhere-requires : tie.Need-is-somewhere-requires Inv-try-directories μ-try-directories
+is-somewhere-requires c κs = search needs
 
 returns : tie.Need-returns Inv-try-directories μ-try-directories
 returns c =
@@ -37,7 +37,7 @@ returns c =
     let hit = c .before .before .try-directory .ensures in
     record {
       answer = (looked-up (args .e .now) (snapshot-of (args .worktree .now) (if-there (args .has-common) (args .common .now)) (args .packed .now)) (full-name (args .pseudo) (between (loop .d)) (args .x .now)) true);
-      first = pass-found (args .e .now) (snapshot-of (args .worktree .now) (if-there (args .has-common) (args .common .now)) (args .packed .now)) (args .x .now) (args .pseudo) (args .one) (loop .d) (loop .inv) (omega arith) _ refl (hit .there ∙ sym (c .before .is-source .ensures) ∙ c .if1 .taken);
+      first = pass-found (args .e .now) (snapshot-of (args .worktree .now) (if-there (args .has-common) (args .common .now)) (args .packed .now)) (args .x .now) (args .pseudo) (args .one) (loop .d) (loop .inv) (omega arith) _ refl (hit .there ∙ sym (c .before .is-somewhere .ensures) ∙ c .if1 .taken);
       hit = hit;
     }
 
@@ -52,7 +52,7 @@ try-directories-again c =
     let args = c .before .before .before .before .before .before .before .before .before .before .before .args in
     let loop = c .before .before .before .before .before .try-directories in
     stands-next (args .e .now) (snapshot-of (args .worktree .now) (if-there (args .has-common) (args .common .now)) (args .packed .now)) (args .x .now) (args .pseudo) (args .one) (loop .d) (loop .inv) (omega arith) _ refl
-    (c .before .before .before .try-directory .ensures .there ∙ sym (c .before .before .is-source .ensures) ∙ c .before .if1 .left) (c .if2 .left)
+    (c .before .before .before .try-directory .ensures .there ∙ sym (c .before .before .is-somewhere .ensures) ∙ c .before .if1 .left) (c .if2 .left)
 
 no-hit-requires : tie.Need-no-hit-requires Inv-try-directories μ-try-directories
 no-hit-requires c κs = search needs
@@ -77,7 +77,7 @@ one-pass-spec =
     μ-try-directories
     try-directories-holds
     try-directory-requires
-    is-source-requires
+    is-somewhere-requires
     returns
     add-d
     try-directories-less

@@ -1,15 +1,15 @@
 use mathlib.Core.Path.{refl, _∙_}
 use Rattle.blocks.specs.Means.{id-width}
 use Rattle.blocks.proofs.Sound.{fit-taken}
-use Rattle.refs.specs.Promises.{source-region, source-bytes, source-at}
+use Rattle.refs.specs.Means.{place-region, place-bytes, place-block}
 use borrow.Author.Needs.{needs}
 use Rattle.refs.proofs.find.said_of.Statement.{statement}
 use Rattle.refs.proofs.find.said_of.Tie as tie
 use Rattle.refs.proofs.find.said_of.Reads as reads
 use Rattle.blocks.proofs.block.sound_kind.Reads as sound-kind-reads
-use Rattle.refs.proofs.find.block_in.Reads as block-in-reads
-use Rattle.refs.proofs.find.content_in.Reads as content-in-reads
-use Rattle.refs.proofs.find.region_in.Reads as region-in-reads
+use Rattle.refs.proofs.place.block_in.Reads as block-in-reads
+use Rattle.refs.proofs.place.content_in.Reads as content-in-reads
+use Rattle.refs.proofs.place.region_in.Reads as region-in-reads
 use Rattle.refs.proofs.raw.says.Reads as says-reads
 
 region-in-requires : tie.Need-region-in-requires
@@ -32,14 +32,14 @@ returns c n =
     let args = c .before .before .before .before .before .before .before .before .args in
     let region = c .before .before .before .before .region-in .ensures in
     let at = c .before .before .before .block-in .ensures in
-    let o = args .source in
+    let o = args .place in
     let content = c .before .content-in .ensures in
     rw content at
-    (c .says .ensures n _ (source-region o) (source-bytes (args .worktree .now) (args .common .now) (args .packed .now) o) (source-at o)
+    (c .says .ensures n _ (place-region o) (place-bytes (args .worktree .now) (args .common .now) (args .packed .now) o) (place-block o)
     (record {
       name-is = refl;
       content-is = content;
-      entry-is = (rw (region, at) at (c .before .before .sound-kind .ensures)) ∙ fit-taken id-width (source-region o) _ (c .before .before .before .before .before .before .before .before .pre) (source-at o);
+      entry-is = (rw (region, at) at (c .before .before .sound-kind .ensures)) ∙ fit-taken id-width (place-region o) _ (c .before .before .before .before .before .before .before .before .pre) (place-block o);
     }))
 
 pub said-of-spec : {M : Type 1} → statement M

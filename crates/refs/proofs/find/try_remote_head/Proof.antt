@@ -1,6 +1,6 @@
 use mathlib.Core.Path.{refl, sym, _∙_}
 use Rattle.blocks.specs.Means.{if-there, snapshot-of}
-use Rattle.refs.proofs.Lookups.{same-source}
+use Rattle.refs.proofs.Lookups.{same-place}
 use Rattle.refs.proofs.Searching.{last-none, last-one}
 use borrow.Author.Needs.{needs}
 use Rattle.refs.proofs.find.try_remote_head.Statement.{statement}
@@ -25,7 +25,7 @@ no-hit-requires c κs = search needs
 returns : tie.Need-returns
 returns c =
     let args = c .before .before .before .before .before .before .before .before .before .args in
-    same-source (args .e .now) (args .worktree .now) (args .common .now) (args .packed .now) _ _ _ _
+    same-place (args .e .now) (args .worktree .now) (args .common .now) (args .packed .now) _ _ _ _
     (last-none (args .e .now) (snapshot-of (args .worktree .now) (if-there (args .has-common) (args .common .now)) (args .packed .now)) (args .x .now) (sym (c .before .before .equal .ensures) ∙ c .before .if1 .taken)) (c .no-hit .ensures (args .e .now) (args .worktree .now) (args .common .now) (args .packed .now))
 
 empty-requires : tie.Need-empty-requires
@@ -43,7 +43,7 @@ lookup-filled-requires c κs = search needs
 returns-2 : tie.Need-returns-2
 returns-2 c =
     let args = c .before .before .before .before .before .before .before .before .before .before .before .before .before .before .before .args in
-    same-source (args .e .now) (args .worktree .now) (args .common .now) (args .packed .now) _ _ _ _
+    same-place (args .e .now) (args .worktree .now) (args .common .now) (args .packed .now) _ _ _ _
     (last-one (args .e .now) (snapshot-of (args .worktree .now) (if-there (args .has-common) (args .common .now)) (args .packed .now)) (args .x .now) (sym (c .before .before .before .before .before .before .before .before .equal .ensures) ∙ c .before .before .before .before .before .before .before .if1 .left) _ refl)
     (rw (c .before .before .before .filled-len .ensures) (c .lookup-filled .ensures _ (c .before .before .before .before .remote-head-candidate .ensures)))
 

@@ -1,6 +1,7 @@
 use mathlib.Core.Path.{ap}
 use Rattle.blocks.specs.Block.{Region}
-use Rattle.refs.specs.ListPromises.{waiting-of, offer-of, positions-of}
+use Rattle.refs.specs.ListPromises.{waiting-of, offer-of}
+use Rattle.refs.specs.Means.{positions-of}
 use Rattle.refs.proofs.ListChooses.{name-none, name-given}
 use borrow.Author.Needs.{needs}
 use Rattle.refs.proofs.overlay_iter.by_name.Statement.{statement}

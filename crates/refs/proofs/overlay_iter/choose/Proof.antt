@@ -1,5 +1,6 @@
 use Rattle.blocks.specs.Block.{Region}
-use Rattle.refs.specs.ListPromises.{waiting-of, move-of, positions-of}
+use Rattle.refs.specs.ListPromises.{waiting-of, move-of}
+use Rattle.refs.specs.Means.{positions-of}
 use Rattle.refs.proofs.ListChooses.{error-is, no-error, choose-packed, choose-common, choose-worktree, choose-name}
 use borrow.Author.Needs.{needs}
 use Rattle.refs.proofs.overlay_iter.choose.Statement.{statement}

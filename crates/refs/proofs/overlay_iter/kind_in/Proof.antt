@@ -5,7 +5,7 @@ use Rattle.refs.proofs.overlay_iter.kind_in.Statement.{statement}
 use Rattle.refs.proofs.overlay_iter.kind_in.Tie as tie
 use Rattle.refs.proofs.overlay_iter.kind_in.Reads as reads
 use Rattle.blocks.proofs.block.entry_kind.Reads as entry-kind-reads
-use Rattle.refs.proofs.overlay_iter.part.Reads as part-reads
+use Rattle.refs.proofs.place.part.Reads as part-reads
 
 enum-told : tie.Need-enum-told
 enum-told c = search needs

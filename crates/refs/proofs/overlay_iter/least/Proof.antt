@@ -1,6 +1,7 @@
 use mathlib.Core.Path.{ap}
 use Rattle.blocks.specs.Means.{region-of}
-use Rattle.refs.specs.ListPromises.{part-of, offer-of}
+use Rattle.refs.specs.ListPromises.{offer-of}
+use Rattle.refs.specs.Means.{part-of}
 use Rattle.refs.proofs.ListChooses.{least-none, least-alone, least-first, least-second}
 use borrow.Author.Needs.{needs}
 use Rattle.refs.proofs.overlay_iter.least.Statement.{statement}

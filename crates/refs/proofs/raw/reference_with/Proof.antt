@@ -1,6 +1,5 @@
-use mathlib.Core.Path.{refl}
 use Rattle.names.specs.Name.{longest}
-use Rattle.refs.proofs.Says.{filled-whole, strip-fits, either-fits, said-parts}
+use Rattle.refs.proofs.Says.{filled-whole, strip-fits, target-short}
 use native.Mathlib.Omega.{arith}
 use borrow.Author.Needs.{needs}
 use Rattle.refs.proofs.raw.reference_with.Statement.{statement}
@@ -11,7 +10,6 @@ use Rattle.blocks.proofs.parse.second_id_of.Reads as second-id-of-reads
 use Rattle.names.proofs.bytes.without.Reads as without-reads
 use Rattle.names.proofs.name.empty.Reads as empty-reads
 use Rattle.names.proofs.name.fill.Reads as fill-reads
-use Rattle.refs.proofs.raw.answer_name.Reads as answer-name-reads
 use Rattle.refs.proofs.raw.target_part.Reads as target-part-reads
 
 empty-requires : tie.Need-empty-requires
@@ -25,9 +23,6 @@ id-of-requires c κs = search needs
 
 second-id-of-requires : tie.Need-second-id-of-requires
 second-id-of-requires c κs = search needs
-
-answer-name-requires : tie.Need-answer-name-requires
-answer-name-requires c κs = search needs
 
 without-requires : tie.Need-without-requires
 without-requires c κs = search needs
@@ -46,17 +41,14 @@ fill-requires-2 c κs = search needs
 
 returns : tie.Need-returns
 returns c =
-    let args = c .before .before .before .before .before .before .before .before .before .before .before .before .before .before .before .before .before .before .args in
-    let pre = c .before .before .before .before .before .before .before .before .before .before .before .before .before .before .before .before .before .before .pre in
-    let from = c .before .before .before .before .before .before .before .before .answer-name in
+    let args = c .before .before .before .before .before .before .before .before .before .before .before .before .before .before .before .before .args in
+    let pre = c .before .before .before .before .before .before .before .before .before .before .before .before .before .before .before .before .pre in
     let name = c .before .before .before .before .before .before .before .without in
     let part = c .before .before .before .target-part in
     let target = c .before .before .without2 in
-    said-parts (args .e .now) (args .said) (args .n .now) (args .own .now) (args .file .now) (part .result .now) _
-    (rw (← from .ensures, ← name .ensures) (filled-whole _ _ _ (c .before .before .before .before .before .before .fill .ensures) (rw (name .ensures, from .ensures) (strip-fits (args .e .now) _ longest (either-fits longest (args .said .«from_packed») (args .own .now) (args .n .now) (pre .1) (pre .0))))))
-    (part .ensures .0)
-    (rw (← target .ensures) (filled-whole _ _ _ (c .before .fill2 .ensures) (rw (target .ensures) (strip-fits (args .e .now) _ longest (omega (arith, part .ensures .1, pre .2))))))
-    refl (c .before .before .before .before .before .before .before .before .before .before .before .id-of .ensures) refl (c .before .before .before .before .before .before .before .before .before .before .second-id-of .ensures)
+    let named = filled-whole _ (name .result .now) _ (c .before .before .before .before .before .before .fill .ensures) (rw (name .ensures) (strip-fits (args .e .now) (args .n .now) longest (pre .0))) in
+    let aimed = filled-whole _ (target .result .now) _ (c .before .fill2 .ensures) (rw (target .ensures, part .ensures) (strip-fits (args .e .now) _ longest (omega (arith, target-short (args .kind) (args .file .now), pre .1)))) in
+    rw (named, name .ensures, aimed, target .ensures, part .ensures, c .before .before .before .before .before .before .before .before .before .before .id-of .ensures, c .before .before .before .before .before .before .before .before .before .second-id-of .ensures)
 
 pub reference-with-spec : {M : Type 1} → statement M
 reference-with-spec =
@@ -66,7 +58,6 @@ reference-with-spec =
     empty-requires-2
     id-of-requires
     second-id-of-requires
-    answer-name-requires
     without-requires
     fill-requires
     target-part-requires

@@ -1,6 +1,3 @@
-use mathlib.Core.Path.{refl}
-use Rattle.blocks.proofs.Contents.{target-le}
-use native.Mathlib.Omega.{arith}
 use borrow.Author.Needs.{needs}
 use Rattle.refs.proofs.raw.target_part.Statement.{statement}
 use Rattle.refs.proofs.raw.target_part.Tie as tie
@@ -26,10 +23,10 @@ target-name-requires : tie.Need-target-name-requires
 target-name-requires c κs = search needs
 
 returns : tie.Need-returns
-returns c = rw (c .before .enum-told .given .1) (tt, omega arith)
+returns c = rw (c .before .enum-told .given .1)
 
 returns-2 : tie.Need-returns-2
-returns-2 c = rw (c .before .enum-told2 .given .1, c .target-name .ensures) (refl, target-le (c .before .before .before .before .args .file .now))
+returns-2 c = rw (c .before .enum-told2 .given .1) (c .target-name .ensures)
 
 pub target-part-spec : {M : Type 1} → statement M
 target-part-spec =

@@ -1,6 +1,5 @@
 use Rattle.text.specs.Promises.{longest-line}
 use Rattle.text.proofs.Puts.{put-nothing}
-use native.Mathlib.Omega.{arith}
 use borrow.Author.Needs.{needs}
 use Rattle.text.proofs.reflist.put_answer.Statement.{statement}
 use Rattle.text.proofs.reflist.put_answer.Tie as tie

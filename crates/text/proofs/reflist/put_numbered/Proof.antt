@@ -1,5 +1,4 @@
 use Rattle.text.proofs.Puts.{then-within, within-then}
-use native.Mathlib.Omega.{arith}
 use borrow.Author.Needs.{needs}
 use Rattle.text.proofs.reflist.put_numbered.Statement.{statement}
 use Rattle.text.proofs.reflist.put_numbered.Tie as tie

@@ -1,5 +1,4 @@
 use Rattle.text.proofs.Puts.{put-then}
-use native.Mathlib.Omega.{arith}
 use borrow.Author.Needs.{needs}
 use Rattle.text.proofs.reflist.put_refusal.Statement.{statement}
 use Rattle.text.proofs.reflist.put_refusal.Tie as tie

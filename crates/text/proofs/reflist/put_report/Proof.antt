@@ -1,5 +1,4 @@
 use Rattle.text.proofs.Puts.{put-then}
-use native.Mathlib.Omega.{arith}
 use borrow.Author.Needs.{needs}
 use Rattle.text.proofs.reflist.put_report.Statement.{statement}
 use Rattle.text.proofs.reflist.put_report.Tie as tie

@@ -2,7 +2,6 @@ use mathlib.Core.Path.{ap, sym, _∙_}
 use Rattle.blocks.specs.Means.{sizes-check}
 use Rattle.text.specs.Reflist.{report, files-check}
 use Rattle.text.proofs.Runs.{few-blocks}
-use native.Mathlib.Omega.{arith}
 use borrow.Author.Needs.{needs}
 use Rattle.text.proofs.reflist.report.Statement.{statement}
 use Rattle.text.proofs.reflist.report.Tie as tie

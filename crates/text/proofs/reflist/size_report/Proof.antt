@@ -1,5 +1,4 @@
 use Rattle.text.specs.Reflist.{files-check}
-use native.Mathlib.Omega.{arith}
 use borrow.Author.Needs.{needs}
 use Rattle.text.proofs.reflist.size_report.Statement.{statement}
 use Rattle.text.proofs.reflist.size_report.Tie as tie

@@ -1,5 +1,4 @@
 use Rattle.text.proofs.Puts.{put-then}
-use native.Mathlib.Omega.{arith}
 use borrow.Author.Needs.{needs}
 use Rattle.text.proofs.refshow.put_flaw.Statement.{statement}
 use Rattle.text.proofs.refshow.put_flaw.Tie as tie

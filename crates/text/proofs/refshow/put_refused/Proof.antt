@@ -1,6 +1,5 @@
 use Rattle.text.specs.Refshow.{refused-line}
 use Rattle.text.proofs.Puts.{then-within, within-then, both-within}
-use native.Mathlib.Omega.{arith}
 use borrow.Author.Needs.{needs}
 use Rattle.text.proofs.refshow.put_refused.Statement.{statement}
 use Rattle.text.proofs.refshow.put_refused.Tie as tie

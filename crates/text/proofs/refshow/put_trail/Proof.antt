@@ -1,4 +1,3 @@
-use native.Mathlib.Omega.{arith}
 use borrow.Author.Needs.{needs}
 use Rattle.text.proofs.refshow.put_trail.Statement.{statement}
 use Rattle.text.proofs.refshow.put_trail.Tie as tie

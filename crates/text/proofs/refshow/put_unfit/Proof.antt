@@ -1,5 +1,4 @@
 use Rattle.text.proofs.Puts.{then-within, within-then, both-within}
-use native.Mathlib.Omega.{arith}
 use borrow.Author.Needs.{needs}
 use Rattle.text.proofs.refshow.put_unfit.Statement.{statement}
 use Rattle.text.proofs.refshow.put_unfit.Tie as tie

@@ -1,6 +1,5 @@
 use mathlib.Core.Path.{ap, _∙_}
 use Rattle.text.specs.Refshow.{show-text}
-use native.Mathlib.Omega.{arith}
 use borrow.Author.Needs.{needs}
 use Rattle.text.proofs.refshow.show.Statement.{statement}
 use Rattle.text.proofs.refshow.show.Tie as tie

@@ -1,5 +1,4 @@
 use Rattle.text.specs.Reflist.{files-check}
-use native.Mathlib.Omega.{arith}
 use borrow.Author.Needs.{needs}
 use Rattle.text.proofs.refshow.size_show.Statement.{statement}
 use Rattle.text.proofs.refshow.size_show.Tie as tie

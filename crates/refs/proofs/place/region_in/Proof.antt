@@ -1,8 +1,8 @@
 use borrow.Author.Needs.{needs}
-use Rattle.refs.proofs.overlay_iter.region_in.Statement.{statement}
-use Rattle.refs.proofs.overlay_iter.region_in.Tie as tie
-use Rattle.refs.proofs.overlay_iter.region_in.Reads as reads
-use Rattle.refs.proofs.overlay_iter.part.Reads as part-reads
+use Rattle.refs.proofs.place.region_in.Statement.{statement}
+use Rattle.refs.proofs.place.region_in.Tie as tie
+use Rattle.refs.proofs.place.region_in.Reads as reads
+use Rattle.refs.proofs.place.part.Reads as part-reads
 
 enum-told : tie.Need-enum-told
 enum-told c = search needs
@@ -16,8 +16,8 @@ part-result-start c = search needs
 part-result-end : tie.Need-part-result-end
 part-result-end c = search needs
 
-enum-known-given : tie.Need-enum-known-given
-enum-known-given c = search needs
+enum-known-place : tie.Need-enum-known-place
+enum-known-place c = search needs
 
 part-requires : tie.Need-part-requires
 part-requires c κs = search needs
@@ -26,7 +26,7 @@ returns : tie.Need-returns
 returns c = search needs
 
 returns-2 : tie.Need-returns-2
-returns-2 c = rw (c .before .before .given .given .1) (c .part .ensures)
+returns-2 c = rw (c .before .before .place .given .1) (c .part .ensures)
 
 pub region-in-spec : {M : Type 1} → statement M
 region-in-spec =
@@ -36,7 +36,7 @@ region-in-spec =
     sub-result
     part-result-start
     part-result-end
-    enum-known-given
+    enum-known-place
     part-requires
     returns
     returns-2)
