@@ -4,7 +4,7 @@
 Names stand in backquotes in one of these forms:
   CRATE/specs/FILE.NAME, CRATE/proofs/FILE.NAME   a definition, a field, a constructor or a law
   CRATE::MODULE::NAME                             a function, a type or a constant of the code
-  CRATE/must-fail/NAME                            an edit that the check must refuse
+  CRATE/must-fail/NAME, CRATE/edits/NAME          a wrong program that the check must refuse
 """
 import pathlib, re, sys
 
@@ -25,8 +25,8 @@ def missing(cited):
         if not path.is_file():
             return f"no file {path.relative_to(root)}"
         return None if declares(path.read_text(), m[4]) else f"{path.relative_to(root)} declares no {m[4]}"
-    if m := re.fullmatch(r"(\w+)/must-fail/(\w+)", cited):
-        path = crates / m[1] / "must-fail" / (m[2] + ".edit")
+    if m := re.fullmatch(r"(\w+)/(must-fail|edits)/(\w+)", cited):
+        path = crates / m[1] / m[2] / (m[3] + ".edit")
         return None if path.is_file() else f"no file {path.relative_to(root)}"
     if m := re.fullmatch(r"(\w+)((?:::\w+)+)::(\w+)", cited):
         modules = m[2].strip(":").split("::")

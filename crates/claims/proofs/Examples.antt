@@ -12,7 +12,7 @@ use Rattle.blocks.proofs.Make.{make}
 use Rattle.refs.specs.Answer.{nothing, refused}
 use Rattle.refs.specs.Search.{find, answers, turned-away, unfit}
 use Rattle.claims.specs.Compared.{number}
-use Rattle.claims.proofs.Fixtures.{points, file, packed, snap, three, chain, ends, lists, ref, ones}
+use Rattle.claims.proofs.Fixtures.{points, file, packed, snap, three, chain, pointing, ends, stops, lists, ref, ones}
 use Rattle.claims.proofs.Computing.{refs-compute}
 
 pub record Examples : Type 0 where
@@ -27,6 +27,8 @@ pub record Examples : Type 0 where
   unread : lists (snap (make 2 (bytes "refs/heads/a") []) (packed "refs/heads/a" 49)) 2 (refused 9 ∷ nothing ∷ []) × ends (snap (make 2 (bytes "refs/heads/a") []) (packed "refs/heads/a" 49)) "a" (number 9)
   -- `ref: ` and nothing: 11
   no-target : ends (snap (points "HEAD" "") []) "HEAD" (number 11)
+  -- 13: the last reference reached is the one whose target is not there
+  target-not-found : stops (snap (points "HEAD" "refs/heads/a" ++ points "refs/heads/a" "refs/heads/b") []) "HEAD" 13 (pointing "refs/heads/a" "refs/heads/b")
   expansion-too-long : expanded (replicate 240 97) ≡ refuses 5
   -- "Counting the starting reference as seen.": the fourth step reaches an object
   fourth-step : ends (snap (chain ++ file "E" 49) []) "A" ones
@@ -35,11 +37,12 @@ pub record Examples : Type 0 where
   full-kept : to-full-name LocalBranch (bytes "refs/heads/a") ≡ gives (bytes "refs/heads/a")
   full-linked : to-full-name (LinkedPseudoRef (bytes "a/b")) (bytes "HEAD") ≡ gives (bytes "worktrees/a/b/HEAD")
   full-refused : (to-full-name PseudoRef (bytes "a") ≡ refuses 4) × (to-full-name Tag (replicate 251 97) ≡ refuses 3)
-  -- search: the third candidate; 1 before 4; the number, region and block of 8
+  -- search: the third candidate; 1 before 4; the number, region and block of 8; at one block the lowest number
   third : find 40 (snap (file "refs/heads/a" 49) []) (bytes "a") none ≡ answers (record { tried = 3; answer = ref "refs/heads/a" 49 })
   size-first : find 40 (snap (0 ∷ []) []) (bytes "a..b") none ≡ turned-away 1
   unfit-block : find 40 (snap (file "refs/heads/b" 49 ++ file "refs/heads/a" 49) (replicate 512 0)) (bytes "a") none ≡ unfit (record { number = 8; region = Region.worktree; block = 1 })
+  lowest-number : find 40 (snap (file "refs/heads/a" 49 ++ replicate 512 0) []) (bytes "a") none ≡ unfit (record { number = 6; region = Region.worktree; block = 1 })
 
 pub examples : Examples
 unfolding refs-compute
-examples = record { sample = refl; errors = refl; common-error = refl; unread = (refl, refl); no-target = refl; expansion-too-long = refl; fourth-step = refl; full-note = (refl, refl); full-kept = refl; full-linked = refl; full-refused = (refl, refl); third = refl; size-first = refl; unfit-block = refl }
+examples = record { sample = refl; errors = refl; common-error = refl; unread = (refl, refl); no-target = refl; target-not-found = refl; expansion-too-long = refl; fourth-step = refl; full-note = (refl, refl); full-kept = refl; full-linked = refl; full-refused = (refl, refl); third = refl; size-first = refl; unfit-block = refl; lowest-number = refl }

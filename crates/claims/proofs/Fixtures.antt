@@ -2,13 +2,14 @@
 use Prim.Native.Nat.{ℕ}
 use Prim.Native.String.{String}
 use Rattle.blocks.proofs.Make.{make}
-use Rattle.blocks.specs.Content.{object}
+use Rattle.blocks.specs.Content.{object, symbolic}
 use Rattle.names.specs.Bytes.{Bytes, bytes}
 use Rattle.names.specs.Check.{gives}
-use Rattle.refs.specs.Answer.{Answer, found}
+use Rattle.refs.specs.Answer.{Reference, Answer, found}
 use Rattle.claims.specs.Compared.{Outcome, an-id, outcome, handed-out}
-use Rattle.refs.specs.Follow.{follow}
+use Rattle.refs.specs.Follow.{follow, stopped}
 use Rattle.refs.specs.Run.{listing, answers-of}
+use Rattle.refs.specs.Search.{answers}
 use Rattle.blocks.specs.Snapshot.{Snapshot}
 use lib.ListN.{replicate}
 use mathlib.Core.Bool.{true}
@@ -33,6 +34,10 @@ snap w p = record { worktree = w; common = none; packed = p }
 abbrev pub ends : Snapshot → String → Outcome → Type 0
 ends s x o = outcome (follow 40 s (bytes x) none) ≡ o
 
+-- following x stops with the number k, and r is the last reference reached
+abbrev pub stops : Snapshot → String → ℕ → Reference → Type 0
+stops s x k r = follow 40 s (bytes x) none ≡ answers (stopped k r)
+
 abbrev pub chain : Bytes
 chain = points "A" "B" ++ (points "B" "C" ++ (points "C" "D" ++ points "D" "E"))
 
@@ -40,8 +45,15 @@ chain = points "A" "B" ++ (points "B" "C" ++ (points "C" "D" ++ points "D" "E"))
 abbrev pub begins : Snapshot → Answer → Type 0
 begins s a = answers-of (listing 40 s none 1) ≡ a ∷ []
 
+-- references as they are answered: one that holds an id of one digit, and a symbolic one
+abbrev pub holding : String → ℕ → Reference
+holding n d = record { name = bytes n; target = object (replicate 40 d); peeled = none }
+
+abbrev pub pointing : String → String → Reference
+pointing n t = record { name = bytes n; target = symbolic (bytes t); peeled = none }
+
 abbrev pub ref : String → ℕ → Answer
-ref n d = found (record { name = bytes n; target = object (replicate 40 d); peeled = none })
+ref n d = found (holding n d)
 
 -- the id all 1
 abbrev pub ones : Outcome

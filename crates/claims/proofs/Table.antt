@@ -5,15 +5,15 @@ use mathlib.Core.List.{[], _∷_, _++_}
 use mathlib.Core.Bool.{true}
 use mathlib.Core.Option.{Option, none, some}
 use lib.ListN.{replicate}
-use Rattle.names.specs.Bytes.{bytes}
+use Rattle.names.specs.Bytes.{Bytes, bytes}
 use Rattle.names.specs.Check.{gives}
 use Rattle.names.specs.Name.{is-pseudo}
-use Rattle.names.specs.Category.{Category, Note, Bisect, WorktreePrivate, Rewritten, PseudoRef, MainPseudoRef, LinkedRef, category, short-name}
+use Rattle.names.specs.Category.{Category, Note, Bisect, WorktreePrivate, Rewritten, PseudoRef, MainPseudoRef, LinkedPseudoRef, LinkedRef, category, short-name}
 use Rattle.names.specs.Namespace.{expanded}
 use Rattle.names.specs.Route.{packed-name}
 use Rattle.blocks.specs.Content.{object, symbolic, reads, unreadable, read}
-use Rattle.claims.specs.Compared.{number}
-use Rattle.claims.proofs.Fixtures.{points, file, snap, chain, ends}
+use Rattle.names.proofs.Words.{KeepsWord, keeps-note, keeps-bisect, keeps-private, keeps-rewritten, never-main, never-pseudo, never-linked, never-private}
+use Rattle.claims.proofs.Fixtures.{points, file, snap, chain, holding, pointing, stops}
 use Rattle.claims.proofs.Computing.{refs-compute}
 
 -- a name's category and short name
@@ -32,6 +32,11 @@ pub record Cases : Type 0 where
   pub bisect : Is "refs/bisect/a" (some Bisect) "bisect/a"
   pub private : Is "refs/worktree/a" (some WorktreePrivate) "worktree/a"
   pub rewritten : Is "refs/rewritten/a" (some Rewritten) "rewritten/a"
+  -- the same of every name of these categories
+  pub note-keeps : (n : Bytes) → category n ≡ some Note → KeepsWord Note n (short-name n)
+  pub bisect-keeps : (n : Bytes) → category n ≡ some Bisect → KeepsWord Bisect n (short-name n)
+  pub private-keeps : (n : Bytes) → category n ≡ some WorktreePrivate → KeepsWord WorktreePrivate n (short-name n)
+  pub rewritten-keeps : (n : Bytes) → category n ≡ some Rewritten → KeepsWord Rewritten n (short-name n)
   -- namespace.rs
   pub namespace : expanded (bytes "a/b") ≡ gives (bytes "refs/namespaces/a/refs/namespaces/b/")
   -- decode.rs
@@ -42,14 +47,19 @@ pub record Cases : Type 0 where
   pub invalid : read 40 (bytes "ref: refs/heads/.invalid") ≡ unreadable 12
   -- packed/find.rs
   pub packed-main : packed-name (bytes "main-worktree/refs/heads/a") ≡ some (bytes "refs/heads/a")
-  pub never-main : packed-name (bytes "main-worktree/HEAD") ≡ none
-  pub never-pseudo : packed-name (bytes "HEAD") ≡ none
-  pub never-linked : packed-name (bytes "worktrees/w/HEAD") ≡ none
-  pub never-private : packed-name (bytes "refs/worktree/a") ≡ none
-  -- raw_ext.rs
-  pub cycle-of-four : ends (snap (points "A" "B" ++ (points "B" "C" ++ (points "C" "D" ++ points "D" "A"))) []) "A" (number 14)
-  pub cycle-of-five : ends (snap (chain ++ points "E" "A") []) "A" (number 15)
-  pub fifth-step : ends (snap (chain ++ (points "E" "F" ++ file "F" 49)) []) "A" (number 15)
+  pub not-main : packed-name (bytes "main-worktree/HEAD") ≡ none
+  pub not-pseudo : packed-name (bytes "HEAD") ≡ none
+  pub not-linked : packed-name (bytes "worktrees/w/HEAD") ≡ none
+  pub not-private : packed-name (bytes "refs/worktree/a") ≡ none
+  -- the same of every name of these categories
+  pub main-never : (n : Bytes) → category n ≡ some MainPseudoRef → packed-name n ≡ none
+  pub pseudo-never : (n : Bytes) → category n ≡ some PseudoRef → packed-name n ≡ none
+  pub linked-never : (n w : Bytes) → category n ≡ some (LinkedPseudoRef w) → packed-name n ≡ none
+  pub private-never : (n : Bytes) → category n ≡ some WorktreePrivate → packed-name n ≡ none
+  -- raw_ext.rs, with the last reference reached: at 14 the one before the name seen already, at 15 the fifth
+  pub cycle-of-four : stops (snap (points "A" "B" ++ (points "B" "C" ++ (points "C" "D" ++ points "D" "A"))) []) "A" 14 (pointing "A" "B")
+  pub cycle-of-five : stops (snap (chain ++ points "E" "A") []) "A" 15 (pointing "A" "B")
+  pub fifth-step : stops (snap (chain ++ (points "E" "F" ++ file "F" 49)) []) "A" 15 (holding "F" 49)
 
 pub cases : Cases
 unfolding refs-compute
@@ -64,6 +74,10 @@ cases =
       bisect = (refl, refl);
       private = (refl, refl);
       rewritten = (refl, refl);
+      note-keeps = keeps-note;
+      bisect-keeps = keeps-bisect;
+      private-keeps = keeps-private;
+      rewritten-keeps = keeps-rewritten;
       namespace = refl;
       spaces = refl;
       no-space = refl;
@@ -71,10 +85,14 @@ cases =
       then-a = refl;
       invalid = refl;
       packed-main = refl;
-      never-main = refl;
-      never-pseudo = refl;
-      never-linked = refl;
-      never-private = refl;
+      not-main = refl;
+      not-pseudo = refl;
+      not-linked = refl;
+      not-private = refl;
+      main-never = never-main;
+      pseudo-never = never-pseudo;
+      linked-never = never-linked;
+      private-never = never-private;
       cycle-of-four = refl;
       cycle-of-five = refl;
       fifth-step = refl;
