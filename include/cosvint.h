@@ -52,30 +52,30 @@
 #define COSVINT_DONE 0
 
 /* 1 to 5: the call is turned away, the earliest row first, and nothing is looked up. A listing's state stays. */
-#define COSVINT_NOT_WHOLE 1          /* a region's size is not a multiple of 512 */
-#define COSVINT_TOO_MANY_BLOCKS 2    /* a region is over 4,096 blocks */
-#define COSVINT_TOO_LONG 3           /* the name or the namespace is over 250 bytes */
-#define COSVINT_MALFORMED 4          /* it is malformed, or not complete where a complete one is due */
-#define COSVINT_EXPANSION_TOO_LONG 5 /* the namespace's expansion is over 250 bytes */
+#define COSVINT_NOT_WHOLE 1          /* a region's size is not a multiple of 512 bytes */
+#define COSVINT_TOO_MANY_BLOCKS 2    /* a region has more than 4,096 blocks, or 40 for the programs */
+#define COSVINT_TOO_LONG 3           /* a name or a namespace is longer than 250 bytes */
+#define COSVINT_MALFORMED 4          /* a name or a namespace is not one that git allows: malformed, or not complete where a complete one is due */
+#define COSVINT_EXPANSION_TOO_LONG 5 /* a namespace grows to more than 250 bytes where it is written out */
 
 /*
  * 6 to 8: the snapshot is not fit for search. The first block counts, worktree before common before packed, and at one block
  * the lowest number; find, follow and fitness tell region and block. A listing gives 6 and 7 for single entries, and goes on.
  */
-#define COSVINT_DAMAGED 6      /* a block is damaged */
-#define COSVINT_ERROR_BLOCK 7  /* a block of kind 3 or 5: a directory or packed-refs could not be read */
-#define COSVINT_OUT_OF_ORDER 8 /* a name is not above the one before it */
+#define COSVINT_DAMAGED 6      /* a block is damaged: its sum, its lengths or its kind are wrong */
+#define COSVINT_ERROR_BLOCK 7  /* a block says that a directory or packed-refs could not be read: kind 3 or 5 */
+#define COSVINT_OUT_OF_ORDER 8 /* a name is not above the one before it in its region */
 
 /* 9 to 12: one reference can't be read. A listing's state has moved on, and the next step gives the next entry. */
-#define COSVINT_UNREAD 9             /* a block of kind 2: the reference's file could not be read */
-#define COSVINT_UNREADABLE 10        /* the content is unreadable as a reference */
-#define COSVINT_INCOMPLETE_TARGET 11 /* the symbolic target is not complete, 12 apart */
-#define COSVINT_UNSUPPORTED 12       /* the target is `refs/heads/.invalid`: the references are kept in another way (reftable) */
+#define COSVINT_UNREAD 9             /* a reference's file was there and could not be read: kind 2 */
+#define COSVINT_UNREADABLE 10        /* a reference's file holds neither an id nor `ref: ` and a name */
+#define COSVINT_INCOMPLETE_TARGET 11 /* a symbolic reference names something that is no reference's name */
+#define COSVINT_UNSUPPORTED 12       /* the repository keeps its references in another way (reftable): its target is `refs/heads/.invalid` */
 
 /* 13 to 15: following stops, and the answer holds the last reference reached. */
-#define COSVINT_TARGET_NOT_FOUND 13 /* its target is not found */
-#define COSVINT_CYCLE 14            /* the next name was already seen */
-#define COSVINT_TOO_DEEP 15         /* five names were seen */
+#define COSVINT_TARGET_NOT_FOUND 13 /* a symbolic reference leads to a name that is not there */
+#define COSVINT_CYCLE 14            /* symbolic references lead back to a name that was passed */
+#define COSVINT_TOO_DEEP 15         /* a chain of symbolic references passes five names */
 
 /* No refusal: not there (find, follow), or ended (list_step). */
 #define COSVINT_NOTHING 100

@@ -37,7 +37,7 @@ struct text {
 /* What the numbers mean, in the words of docs/REFUSALS.md. */
 static const char *const meanings[] = {
     [COSVINT_NOT_WHOLE] = "a region's size is not a multiple of 512 bytes",
-    [COSVINT_TOO_MANY_BLOCKS] = "a region has more than 4,096 blocks",
+    [COSVINT_TOO_MANY_BLOCKS] = "a region has more than 4,096 blocks, or 40 for the programs",
     [COSVINT_TOO_LONG] = "a name or a namespace is longer than 250 bytes",
     [COSVINT_MALFORMED] = "a name or a namespace is not one that git allows",
     [COSVINT_EXPANSION_TOO_LONG] = "a namespace grows to more than 250 bytes where it is written out",

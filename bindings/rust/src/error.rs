@@ -12,33 +12,33 @@ use std::fmt;
 pub enum Error {
     /// 1: a region's size is not a multiple of 512 bytes.
     NotWhole,
-    /// 2: a region has more than 4,096 blocks.
+    /// 2: a region has more than 4,096 blocks, or 40 for the programs.
     TooManyBlocks,
     /// 3: a name or a namespace is longer than 250 bytes.
     TooLong,
-    /// 4: a name or a namespace is malformed, or not complete where a complete one is due.
+    /// 4: a name or a namespace is not one that git allows: malformed, or not complete where a complete one is due.
     Malformed,
-    /// 5: a namespace's expansion is longer than 250 bytes.
+    /// 5: a namespace grows to more than 250 bytes where it is written out.
     ExpansionTooLong,
-    /// 6: a block is damaged. A listing does not tell the place.
+    /// 6: a block is damaged: its sum, its lengths or its kind are wrong. A listing does not tell the place.
     Damaged(Option<Place>),
     /// 7: a block says that a directory or packed-refs could not be read. A listing does not tell the place.
     ErrorBlock(Option<Place>),
-    /// 8: the name of the block at this place is not above the one before it. No listing gives this.
+    /// 8: a name is not above the one before it in its region. No listing gives this.
     OutOfOrder(Option<Place>),
     /// 9: a reference's file was there and could not be read.
     Unread,
     /// 10: a reference's file holds neither an id nor `ref: ` and a name.
     Unreadable,
-    /// 11: a symbolic target is not a complete name.
+    /// 11: a symbolic reference names something that is no reference's name.
     IncompleteTarget,
-    /// 12: the target is `refs/heads/.invalid`, which says that the references are kept in another way (reftable).
+    /// 12: the repository keeps its references in another way (reftable): its target is `refs/heads/.invalid`.
     Unsupported,
-    /// 13: the target of this reference, the last one reached, is not there.
+    /// 13: a symbolic reference leads to a name that is not there; this is the last reference reached.
     TargetNotFound(Box<Reference>),
-    /// 14: this reference, the last one reached, leads back to a name that was passed.
+    /// 14: symbolic references lead back to a name that was passed; this is the last reference reached.
     Cycle(Box<Reference>),
-    /// 15: five names were passed; this is the last reference reached.
+    /// 15: a chain of symbolic references passes five names; this is the last reference reached.
     TooDeep(Box<Reference>),
 }
 
@@ -65,7 +65,7 @@ pub enum Region {
 /// What the numbers from 1 on mean, in the words of docs/REFUSALS.md.
 const MEANINGS: [&str; 15] = [
     "a region's size is not a multiple of 512 bytes",
-    "a region has more than 4,096 blocks",
+    "a region has more than 4,096 blocks, or 40 for the programs",
     "a name or a namespace is longer than 250 bytes",
     "a name or a namespace is not one that git allows",
     "a namespace grows to more than 250 bytes where it is written out",

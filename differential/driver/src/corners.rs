@@ -125,7 +125,7 @@ const CORNERS: &[Corner] = &[
     in_n(&["w:Nworktrees/w=#2", "p:Nrefs/bisect/y*215=#1"], "find worktrees/w/refs/bisect/y*215", "absent"),
     // Intended differences.
     differs(&[], None, "find y*251", "absent", "refused 3"),
-    differs(&[], Some("y*235"), "list", "", "refused 5"),
+    differs(&[], Some("n/n/n/n/n/n/n/n/n/n/n/n/n/n"), "list", "", "refused 5"),
     differs(&["w:HEAD=#1", "w:refs/x"], None, "find HEAD", "found `HEAD` object #1 ~", "refused 7 worktree 1"),
     differs(&["w:refs/x"], Some("n"), "list", "", "refused 7"),
     differs(
