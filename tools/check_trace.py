@@ -92,7 +92,7 @@ def unfolded_above(crate):
         if file.relative_to(crates).parts[0] == crate or file.stem == "Computing":
             continue
         imported = set(re.findall(r"[^\s,{}]+", " ".join(re.findall(rf"^use Rattle\.{crate}\.specs\.[^{{\n]*\{{([^}}]*)\}}", text, re.M))))
-        for line in re.findall(r"^\s*unfolding (.*(?:\n    .*)*)", text, re.M):
+        for line in re.findall(r"^\s*unfolding ([^=:()\n]*(?:\n +[^=:()\n]*$)*)", text, re.M):
             for name in sorted(owned & imported & set(line.split())):
                 yield f"{file.relative_to(root)} unfolds {name} of {crate}"
 

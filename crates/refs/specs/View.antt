@@ -1,4 +1,4 @@
--- What a listing sees of an entry. A namespace, a prefix, hide rules or a dropped block change this and nothing below.
+-- What a listing sees of an entry: which names it shows in each region, and what is an error entry.
 use Prim.Native.Nat.{ℕ}
 use mathlib.Core.List.{[], _∷_}
 use mathlib.Core.Bool.{Bool, true, false, not, _&&_}
