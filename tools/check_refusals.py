@@ -19,6 +19,12 @@ def same(path, what, number, seen, want):
         wrong.append(f"{path}: {what} of {number} is {seen!r}, not {want!r}")
 
 
+def begins(path, what, number, seen, want):
+    """The words stand alone, or something more is said behind a stop."""
+    if not re.match(re.escape(want) + r"($|[.:;])", seen):
+        wrong.append(f"{path}: {what} of {number} is {seen!r}, not {want!r}")
+
+
 def camel(constant):
     return "".join(word.capitalize() for word in constant.split("_"))
 
@@ -40,6 +46,7 @@ def main():
     documented = {int(n): (text, name) for n, text, name in re.findall(r"/// (\d+): (.*)\n    (\w+)", rust)}
     meanings = re.findall(r'^    "(.*)",$', rust.split("const MEANINGS")[1].split("];")[0], re.M)
     numbers = numbered(r"Error::(?P<text>\w+)(?:\(_\))? => (?P<n>\d+),", rust)
+    made = numbered(r"(?P<n>\d+) => Error::(?P<text>\w+)", rust)
     example = dict(re.findall(r'\[COSVINT_(\w+)\] = "(a .*|the .*|symbolic .*)"', read("bindings/c/profile.c")))
     for path, found in (("crates/text/specs/Refshow.antt", lines), ("crates/text/src/refshow.rt", code), ("include/cosvint.h", constants),
                         ("bindings/rust/src/error.rs", documented), ("bindings/rust/src/error.rs", meanings),
@@ -51,11 +58,12 @@ def main():
             whole, (constant, comment), (said, variant) = f"{means}; look at {look}", constants[n], documented[n]
             same("crates/text/specs/Refshow.antt", "the text", n, lines[n - 1], whole)
             same("crates/text/src/refshow.rt", "the text", n, code[n], whole)
-            same("include/cosvint.h", "the comment", n, comment[: len(means)], means)
-            same("bindings/rust/src/error.rs", "the documentation", n, said[: len(means)], means)
+            begins("include/cosvint.h", "the comment", n, comment, means)
+            begins("bindings/rust/src/error.rs", "the documentation", n, said, means)
             same("bindings/rust/src/error.rs", "the meaning", n, meanings[n - 1], means)
             same("bindings/rust/src/error.rs", "the variant", n, variant, camel(constant))
             same("bindings/rust/src/error.rs", "the number", n, numbers[n], variant)
+            same("bindings/rust/src/error.rs", "what is made", n, made.get(n), variant)
             same("bindings/c/profile.c", "the meaning", n, example.get(constant), means)
     for line in wrong:
         print(line)

@@ -6,20 +6,21 @@ Names stand in backquotes in one of these forms:
   CRATE::MODULE::NAME                             a function, a type or a constant of the code
   CRATE/must-fail/NAME, CRATE/edits/NAME          a wrong program that the check must refuse
 
-Shipped are the archive's exported calls and the programs reflist and refshow. A row whose code only replay reaches says
-"replay", and one whose code nothing reaches says "no call goes through it". Besides: no proof of a crate above names unfolds a
-definition of names. Exits 1 and says what is wrong.
+Shipped are the archive's exported calls and the programs reflist and refshow. Code that only replay reaches is cited with "replay" behind
+it, and code that nothing reaches with "no call goes through it". Besides: no proof of a crate above names unfolds a definition of
+names, and only the modules COMPUTING compute with all definitions. Exits 1 and says what is wrong.
 """
 import pathlib, re, sys
 
 root = pathlib.Path(__file__).resolve().parent.parent
 crates = root / "crates"
+COMPUTING = ("names/Rules", "names/Tried", "blocks/Damage", *(f"claims/{m}" for m in ("Decide", "Examples", "Needed", "Pair", "Surprises", "Table")))
 ITEM = r'^\s*(?:pub(?:\(crate\))? )?(?:extern "C" )?(fn|struct|enum|const) (\w+)'
 
 
 def declares(text, name):
     n = re.escape(name)
-    signature = rf"^\s*(?:(?:unfoldable|abbrev|pub) )*(?:\S+ )*{n}(?: \S+)*(?: \{{[^}}]*\}})? :"
+    signature = rf"^\s*(?:(?:unfoldable|abbrev|pub) )*(?:[^\s:=(]+ )*{n}(?: [^\s:=(]+)*(?: \{{[^}}]*\}})? :"
     kind = rf"^\s*(?:pub )?(?:data|record) {n}(?: |$)"
     return re.search(signature, text, re.M) or re.search(kind, text, re.M)
 
@@ -34,9 +35,9 @@ def missing(cited):
     if m := re.fullmatch(r"(\w+)/(must-fail|edits)/(\w+)", cited):
         path = crates / m[1] / m[2] / (m[3] + ".edit")
         return None if path.is_file() else f"no file {path.relative_to(root)}"
-    if re.fullmatch(r"\w+(?:::\w+)+", cited) and (crates / cited.split("::")[0]).is_dir():
+    if re.fullmatch(r"\w+(?:::\w+)+", cited):
         return None if cited in items() else "the code has no such item"
-    return ""
+    return "no such form" if re.fullmatch(r"\w+/[\w-]+/[A-Z]\w*\.\S+|\w+/(edits?|must-?fails?)/\w+", cited) else ""
 
 
 def items(found={}):
@@ -85,11 +86,16 @@ def reached(roots):
 
 
 def unfolded_above(crate):
-    """The proofs of other crates that unfold a definition of this one; to unfold what a Computing module gathers is to compute."""
+    """The proofs of other crates that unfold a definition of this one, and those outside COMPUTING that compute."""
     owned = {name for file in (crates / crate / "specs").glob("*.antt") for name in re.findall(r"^\s*unfoldable (?:pub )?(\S+)", file.read_text(), re.M)}
     for file in sorted(crates.glob("*/proofs/**/*.antt")):
         text = file.read_text()
-        if file.relative_to(crates).parts[0] == crate or file.stem == "Computing":
+        parts = file.relative_to(crates).with_suffix("").parts
+        if parts[-1] == "Computing":
+            continue
+        if f"{parts[0]}/{parts[-1]}" not in COMPUTING and re.search(r"^\s*unfolding .*-compute\b", text, re.M):
+            yield f"{file.relative_to(root)} computes, and is not among the modules that may"
+        if parts[0] == crate:
             continue
         imported = set(re.findall(r"[^\s,{}]+", " ".join(re.findall(rf"^use Rattle\.{crate}\.specs\.[^{{\n]*\{{([^}}]*)\}}", text, re.M))))
         for line in re.findall(r"^\s*unfolding ([^=:()\n]*(?:\n +[^=:()\n]*$)*)", text, re.M):
@@ -104,15 +110,16 @@ def main():
     replayed = reached(["replay::main"])
     known, bad = set(), []
     for row in text.split("\n"):
-        for cited in re.findall(r"`([^`\n]+)`", row):
+        for cite in re.finditer(r"`([^`\n]+)`", row):
+            cited, behind = cite[1], re.split(r"[|;]", row[cite.end() :])[0]
             what = missing(cited)
             if what is None:
                 known.add(cited)
                 if cited in items() and cited not in shipped:
                     if cited in replayed:
-                        what = None if "replay" in row else "only replay reaches it, and the row does not say so"
+                        what = None if "replay" in behind else "only replay reaches it, which is not said behind it"
                     else:
-                        what = None if "no call goes through it" in row else "nothing that is shipped goes through it"
+                        what = None if "no call goes through it" in behind else "nothing that is shipped goes through it"
             if what:
                 bad.append(f"{cited}: {what}")
     for line in sorted(set(bad)):
@@ -120,7 +127,7 @@ def main():
     unfolded = list(unfolded_above("names"))
     for line in unfolded:
         print(line)
-    print(f"docs/TRACE.md: {len(known)} names found, {len(set(bad))} wrong; {len(unfolded)} proofs above names unfold its definitions")
+    print(f"docs/TRACE.md: {len(known)} names found, {len(set(bad))} wrong; {len(unfolded)} proofs unfold what they may not")
     return 1 if bad or unfolded or not known else 0
 
 

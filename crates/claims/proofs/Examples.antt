@@ -2,7 +2,7 @@
 use mathlib.Core.Path.{_≡_, refl}
 use mathlib.Core.List.{[], _∷_, _++_}
 use mathlib.Core.Option.{none}
-use lib.ListN.{replicate}
+use lib.ListN.{replicate, take}
 use Rattle.names.specs.Bytes.{bytes}
 use Rattle.names.specs.Check.{gives, refuses}
 use Rattle.names.specs.Category.{Note, LocalBranch, Tag, PseudoRef, LinkedPseudoRef, to-full-name}
@@ -37,11 +37,11 @@ pub record Examples : Type 0 where
   full-kept : to-full-name LocalBranch (bytes "refs/heads/a") ≡ gives (bytes "refs/heads/a")
   full-linked : to-full-name (LinkedPseudoRef (bytes "a/b")) (bytes "HEAD") ≡ gives (bytes "worktrees/a/b/HEAD")
   full-refused : (to-full-name PseudoRef (bytes "a") ≡ refuses 4) × (to-full-name Tag (replicate 251 97) ≡ refuses 3)
-  -- search: the third candidate; 1 before 4; the number, region and block of 8; at one block the lowest number
+  -- search: the third candidate; 1 before 4; the number, region and block of 8; at a block that is damaged, its name not above the one before, 6
   third : find 40 (snap (file "refs/heads/a" 49) []) (bytes "a") none ≡ answers (record { tried = 3; answer = ref "refs/heads/a" 49 })
   size-first : find 40 (snap (0 ∷ []) []) (bytes "a..b") none ≡ turned-away 1
   unfit-block : find 40 (snap (file "refs/heads/b" 49 ++ file "refs/heads/a" 49) (replicate 512 0)) (bytes "a") none ≡ unfit (record { number = 8; region = Region.worktree; block = 1 })
-  lowest-number : find 40 (snap (file "refs/heads/a" 49 ++ replicate 512 0) []) (bytes "a") none ≡ unfit (record { number = 6; region = Region.worktree; block = 1 })
+  lowest-number : find 40 (snap (file "refs/heads/b" 49 ++ (take 511 (file "refs/heads/a" 49) ++ (1 ∷ []))) []) (bytes "a") none ≡ unfit (record { number = 6; region = Region.worktree; block = 1 })
 
 pub examples : Examples
 unfolding refs-compute

@@ -8,12 +8,12 @@ use Rattle.names.specs.Check.{gives}
 use Rattle.refs.specs.Answer.{Reference, Answer, found}
 use Rattle.claims.specs.Compared.{Outcome, an-id, outcome, handed-out}
 use Rattle.refs.specs.Follow.{follow, stopped}
-use Rattle.refs.specs.Run.{listing, answers-of}
+use Rattle.refs.specs.Run.{listing}
 use Rattle.refs.specs.Search.{answers}
 use Rattle.blocks.specs.Snapshot.{Snapshot}
 use lib.ListN.{replicate}
 use mathlib.Core.Bool.{true}
-use mathlib.Core.List.{List, [], _∷_, _++_}
+use mathlib.Core.List.{List, _++_}
 use mathlib.Core.Option.{none, some}
 use mathlib.Core.Path.{_≡_}
 
@@ -40,10 +40,6 @@ stops s x k r = follow 40 s (bytes x) none ≡ answers (stopped k r)
 
 abbrev pub chain : Bytes
 chain = points "A" "B" ++ (points "B" "C" ++ (points "C" "D" ++ points "D" "E"))
-
--- what the first step answers
-abbrev pub begins : Snapshot → Answer → Type 0
-begins s a = answers-of (listing 40 s none 1) ≡ a ∷ []
 
 -- references as they are answered: one that holds an id of one digit, and a symbolic one
 abbrev pub holding : String → ℕ → Reference

@@ -18,7 +18,7 @@ use Rattle.claims.specs.Compared.{Outcome, number, outcome, handed-out}
 use Rattle.claims.proofs.Computing.{refs-compute}
 use Rattle.claims.proofs.Fixtures.{points, file, packed, snap, three, ends, lists, ref, ones}
 
--- what a search that was not turned away answers
+-- what a search answers; a call that is refused, by its number
 abbrev answer-in : Result Searched → Answer
 answer-in (answers a) = a .answer
 answer-in (turned-away k) = refused k

@@ -12,7 +12,7 @@ use Rattle.names.specs.Category.{Category, Note, Bisect, WorktreePrivate, Rewri
 use Rattle.names.specs.Namespace.{expanded}
 use Rattle.names.specs.Route.{packed-name}
 use Rattle.blocks.specs.Content.{object, symbolic, reads, unreadable, read}
-use Rattle.names.proofs.Words.{KeepsWord, keeps-note, keeps-bisect, keeps-private, keeps-rewritten, never-main, never-pseudo, never-linked, never-private}
+use Rattle.names.proofs.Words.{KeepsWord, keeps-note, keeps-bisect, keeps-private, keeps-rewritten, never-main-pseudo, never-pseudo, never-linked-pseudo, never-private}
 use Rattle.claims.proofs.Fixtures.{points, file, snap, chain, holding, pointing, stops}
 use Rattle.claims.proofs.Computing.{refs-compute}
 
@@ -52,9 +52,9 @@ pub record Cases : Type 0 where
   pub not-linked : packed-name (bytes "worktrees/w/HEAD") ≡ none
   pub not-private : packed-name (bytes "refs/worktree/a") ≡ none
   -- the same of every name of these categories
-  pub main-never : (n : Bytes) → category n ≡ some MainPseudoRef → packed-name n ≡ none
+  pub main-pseudo-never : (n : Bytes) → category n ≡ some MainPseudoRef → packed-name n ≡ none
   pub pseudo-never : (n : Bytes) → category n ≡ some PseudoRef → packed-name n ≡ none
-  pub linked-never : (n w : Bytes) → category n ≡ some (LinkedPseudoRef w) → packed-name n ≡ none
+  pub linked-pseudo-never : (n w : Bytes) → category n ≡ some (LinkedPseudoRef w) → packed-name n ≡ none
   pub private-never : (n : Bytes) → category n ≡ some WorktreePrivate → packed-name n ≡ none
   -- raw_ext.rs, with the last reference reached: at 14 the one before the name seen already, at 15 the fifth
   pub cycle-of-four : stops (snap (points "A" "B" ++ (points "B" "C" ++ (points "C" "D" ++ points "D" "A"))) []) "A" 14 (pointing "A" "B")
@@ -89,9 +89,9 @@ cases =
       not-pseudo = refl;
       not-linked = refl;
       not-private = refl;
-      main-never = never-main;
+      main-pseudo-never = never-main-pseudo;
       pseudo-never = never-pseudo;
-      linked-never = never-linked;
+      linked-pseudo-never = never-linked-pseudo;
       private-never = never-private;
       cycle-of-four = refl;
       cycle-of-five = refl;

@@ -78,17 +78,17 @@ pub keeps-rewritten : (n : Bytes) → category n ≡ some Rewritten → KeepsWor
 keeps-rewritten n e = subst (λ k. Kept k n (short-name n)) e (kept n)
 
 -- "MainPseudoRef, PseudoRef, LinkedPseudoRef and WorktreePrivate are never sought there."
-pub never-main : (n : Bytes) → category n ≡ some MainPseudoRef → packed-name n ≡ none
+pub never-main-pseudo : (n : Bytes) → category n ≡ some MainPseudoRef → packed-name n ≡ none
 unfolding packed-name packed-as
-never-main n e = rw e
+never-main-pseudo n e = rw e
 
 pub never-pseudo : (n : Bytes) → category n ≡ some PseudoRef → packed-name n ≡ none
 unfolding packed-name packed-as
 never-pseudo n e = rw e
 
-pub never-linked : (n w : Bytes) → category n ≡ some (LinkedPseudoRef w) → packed-name n ≡ none
+pub never-linked-pseudo : (n w : Bytes) → category n ≡ some (LinkedPseudoRef w) → packed-name n ≡ none
 unfolding packed-name packed-as
-never-linked n w e = rw e
+never-linked-pseudo n w e = rw e
 
 pub never-private : (n : Bytes) → category n ≡ some WorktreePrivate → packed-name n ≡ none
 unfolding packed-name packed-as
