@@ -1,7 +1,7 @@
 -- Document 01's sample listing, its misreadings that the ● table leaves, and the calls that no table asks, by computation.
 use mathlib.Core.Path.{_≡_, refl}
 use mathlib.Core.List.{[], _∷_, _++_}
-use mathlib.Core.Option.{none}
+use mathlib.Core.Option.{none, some}
 use lib.ListN.{replicate, take}
 use Rattle.names.specs.Bytes.{bytes}
 use Rattle.names.specs.Check.{gives, refuses}
@@ -11,7 +11,7 @@ use Rattle.blocks.specs.Block.{Region}
 use Rattle.blocks.proofs.Make.{make}
 use Rattle.refs.specs.Answer.{nothing, refused}
 use Rattle.refs.specs.Search.{find, answers, turned-away, unfit}
-use Rattle.claims.specs.Compared.{number}
+use Rattle.claims.specs.Compared.{number, an-id}
 use Rattle.claims.proofs.Fixtures.{points, file, packed, snap, three, chain, pointing, ends, stops, lists, ref, ones}
 use Rattle.claims.proofs.Computing.{refs-compute}
 
@@ -29,6 +29,8 @@ pub record Examples : Type 0 where
   no-target : ends (snap (points "HEAD" "") []) "HEAD" (number 11)
   -- 13: the last reference reached is the one whose target is not there
   target-not-found : stops (snap (points "HEAD" "refs/heads/a" ++ points "refs/heads/a" "refs/heads/b") []) "HEAD" 13 (pointing "refs/heads/a" "refs/heads/b")
+  -- 3 of a name and of a namespace; 5
+  too-long : (find 40 (snap [] []) (replicate 251 97) none ≡ turned-away 3) × (find 40 (snap [] []) (bytes "a") (some (replicate 251 97)) ≡ turned-away 3)
   expansion-too-long : expanded (replicate 240 97) ≡ refuses 5
   -- "Counting the starting reference as seen.": the fourth step reaches an object
   fourth-step : ends (snap (chain ++ file "E" 49) []) "A" ones
@@ -37,12 +39,14 @@ pub record Examples : Type 0 where
   full-kept : to-full-name LocalBranch (bytes "refs/heads/a") ≡ gives (bytes "refs/heads/a")
   full-linked : to-full-name (LinkedPseudoRef (bytes "a/b")) (bytes "HEAD") ≡ gives (bytes "worktrees/a/b/HEAD")
   full-refused : (to-full-name PseudoRef (bytes "a") ≡ refuses 4) × (to-full-name Tag (replicate 251 97) ≡ refuses 3)
-  -- search: the third candidate; 1 before 4; the number, region and block of 8; at a block that is damaged, its name not above the one before, 6
+  -- search: the third candidate; each name its own id; 1 before 4; 7 and 8 with region and block; at a block that is damaged, its name not above the one before, 6
   third : find 40 (snap (file "refs/heads/a" 49) []) (bytes "a") none ≡ answers (record { tried = 3; answer = ref "refs/heads/a" 49 })
+  own-id : (ends (snap (file "refs/heads/a" 49 ++ file "refs/heads/b" 50) []) "a" ones) × (ends (snap (file "refs/heads/a" 49 ++ file "refs/heads/b" 50) []) "b" (an-id (replicate 40 50)))
   size-first : find 40 (snap (0 ∷ []) []) (bytes "a..b") none ≡ turned-away 1
+  walk-error : find 40 (three [] (make 3 [] []) (make 5 [] [])) (bytes "a") none ≡ unfit (record { number = 7; region = Region.common; block = 0 })
   unfit-block : find 40 (snap (file "refs/heads/b" 49 ++ file "refs/heads/a" 49) (replicate 512 0)) (bytes "a") none ≡ unfit (record { number = 8; region = Region.worktree; block = 1 })
   lowest-number : find 40 (snap (file "refs/heads/b" 49 ++ (take 511 (file "refs/heads/a" 49) ++ (1 ∷ []))) []) (bytes "a") none ≡ unfit (record { number = 6; region = Region.worktree; block = 1 })
 
 pub examples : Examples
 unfolding refs-compute
-examples = record { sample = refl; errors = refl; common-error = refl; unread = (refl, refl); no-target = refl; target-not-found = refl; expansion-too-long = refl; fourth-step = refl; full-note = (refl, refl); full-kept = refl; full-linked = refl; full-refused = (refl, refl); third = refl; size-first = refl; unfit-block = refl; lowest-number = refl }
+examples = record { sample = refl; errors = refl; common-error = refl; unread = (refl, refl); no-target = refl; target-not-found = refl; too-long = (refl, refl); expansion-too-long = refl; fourth-step = refl; full-note = (refl, refl); full-kept = refl; full-linked = refl; full-refused = (refl, refl); third = refl; own-id = (refl, refl); size-first = refl; walk-error = refl; unfit-block = refl; lowest-number = refl }
