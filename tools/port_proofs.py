@@ -1,0 +1,190 @@
+#!/usr/bin/env python3
+"""port_proofs.py CRATE NAMES [FUNCTION..]: proofs that walk a function by `tie`, as invariants and answers.
+
+NAMES is the names.json that `rt check --generated FOLDER --old-names` writes in the crate's folder. Each proofs/F/Proof.antt becomes
+proofs/F/Invariants.antt and proofs/F/Answers.antt: goals and steps under today's names, no answer where it was `search rules`.
+"""
+import json, pathlib, re, sys
+
+top = pathlib.Path(__file__).resolve().parent.parent
+NAME = r"[^\s(){}\[\].,;:=]+"
+
+
+def flat(name):
+    return re.sub(r"[-_]", "_", name)
+
+
+def blocks(text):
+    """The file's parts that begin at the margin: comments, imports, declarations."""
+    found = []
+    for line in text.rstrip("\n").split("\n"):
+        if line and not line[0].isspace() or not found:
+            found.append([line])
+        else:
+            found[-1].append(line)
+    return ["\n".join(b).rstrip() for b in found]
+
+
+def declarations(parts):
+    """Comments and imports, then (comment, signature, unfolding, clauses) of each declaration."""
+    imports, out, comment = [], [], []
+    for b in parts:
+        if re.match(r"(pub )?use ", b):
+            imports.append(b)
+        elif b.startswith("--"):
+            comment.append(b)
+        elif b.startswith("unfolding"):
+            out[-1][2] = b
+        elif re.match(rf"((?:abbrev |unfoldable |pub )*)({NAME})(\s+{NAME})*\s*:(?=\s)", b) or re.match(r"(module |record |data |pub data|pub record)", b):
+            out.append([comment, b, "", []])
+            comment = []
+        elif out:
+            out[-1][3].append(b)
+        else:
+            comment.append(b)
+    return imports, out
+
+
+class Names:
+    def __init__(self, d):
+        self.needs = {flat(a): b for a, b in d["needs"]}
+        self.order = [b for _, b in d["needs"]]
+        self.fields = {}
+        for place in d["places"]:
+            if place[2] and place[2][0]:
+                self.fields[flat(place[2][0])] = place[2][1]
+        for loop, _ in d["loops"]:
+            self.fields[flat(loop[0])] = loop[1]
+        self.loops = {flat(l[0][0]): (l[0][1], l[1], d["changed"][i] if i < len(d["changed"]) else []) for i, l in enumerate(d["loops"])}
+
+    def need(self, local, need):
+        for n in (local, need, re.sub(r"^overflow-", "", need), re.sub(r"^slice-bounds-", "part-", need)):
+            if flat(n) in self.needs:
+                return self.needs[flat(n)]
+        return None
+
+
+HEADS = ("args", "ranges", "new", "old", "now", "result", "ensures", "requires", "type_inv", "ghost")
+
+
+def paths(body, names, left):
+    body = re.sub(r"(\.before)+\b", "", body)
+
+    def one(m):
+        field = m[2]
+        new = names.fields.get(flat(field))
+        if m[1] in HEADS or new is None:
+            return m[0]
+        return f"{m[1]}.{new}"
+
+    body = re.sub(rf"(?<![\w.])([\w₀-₉']+)\.({NAME})", one, body)
+    return body
+
+
+def convert(path, names, crate, where):
+    imports, decls = declarations(blocks(path.read_text()))
+    head = []
+    text = path.read_text().split("\n")
+    for l in text:
+        if l.startswith("--"):
+            head.append(l)
+        else:
+            break
+    local = {}
+    inv, ans, helpers, left = [], [], [], []
+    for comment, sig, unfolding, clauses in decls:
+        m = re.match(rf"((?:abbrev |unfoldable |pub )*)({NAME})\s*:\s*tie\.({NAME})(.*)", sig, re.S)
+        if m and m[3].startswith(("invariant", "decreases")):
+            kind, _, loop = m[3].partition("-")
+            entry = names.loops.get(flat(loop)) or (next(iter(names.loops.values())) if len(names.loops) == 1 else None)
+            if not entry:
+                left.append(f"loop {m[3]}")
+                continue
+            new, live, changed = entry
+            cl = clauses[0]
+            lhs, _, rhs = cl.partition("=")
+            params = lhs.split()[1:]
+            table = {}
+            for i, v in enumerate(live):
+                if i < len(params):
+                    table[params[i]] = ("l.initial." if i < len(changed) and changed[i] else "l.") + v
+            rest = [v for i, v in enumerate(live) if i < len(changed) and changed[i]]
+            for p, v in zip(params[len(live):], rest):
+                table[p] = "l." + v
+            if len(params) != len(live) + len(rest):
+                left.append(f"{m[3]}: {params} for {live} {changed}")
+            rhs = re.sub(r"(?<![\w.'₀-₉-])([\w'₀-₉]+)(?![\w'₀-₉-])", lambda t: table.get(t[1], t[1]), rhs)
+            inv.append((comment, f"abbrev pub {kind}-{new} : goal.{kind}-{new}", unfolding, f"{kind}-{new} l ={rhs}"))
+            local[m[2]] = f"{kind}-{new}"
+        elif m and m[3].startswith("Need-"):
+            new = names.need(m[2], m[3][5:])
+            body = clauses[0] if clauses else ""
+            lhs, _, rhs = body.partition("=")
+            local[m[2]] = new
+            if rhs.strip() == "search rules":
+                continue
+            if new is None:
+                left.append(f"goal {m[2]} of {m[3]}")
+                new = m[2]
+            args = [a for a in lhs.split()[1:] if a != "κs"] or ["c"]
+            ans.append((comment, f"pub {new} : goal.{new}", unfolding, f"{new} {' '.join(args)} ={rhs}", clauses[1:]))
+        elif re.match(rf"pub {NAME} : .*statement", sig):
+            continue
+        else:
+            helpers.append((comment, sig, unfolding, clauses))
+    return imports, head, inv, ans, helpers, left
+
+
+def show(it):
+    return "\n".join(x for x in ["\n".join(it[0]), it[1], it[2], it[3], *(it[4] if len(it) > 4 else [])] if x)
+
+
+def main():
+    crate, file, wanted = sys.argv[1], sys.argv[2], sys.argv[3:]
+    table = json.load(open(file))
+    root = top / "crates" / crate / "proofs"
+    for path in sorted(root.glob("**/Proof.antt")):
+        where = ".".join(path.parent.relative_to(root).parts)
+        if wanted and where not in wanted:
+            continue
+        d = table.get(f"Rattle-{crate}-proofs.{where}.Lts")
+        if d is None:
+            print(f"{where}: no names")
+            continue
+        names = Names(d)
+        imports, head, inv, ans, helpers, left = convert(path, names, crate, where)
+        keep = [i for i in imports if not re.search(r"\.(Tie|Statement)\b", i)]
+        def used(items):
+            body = "\n".join(show(i) if len(i) != 4 or isinstance(i[3], str) else "\n".join(["\n".join(i[0]), i[1], i[2], *i[3]]) for i in items)
+            out = []
+            for i in keep:
+                m = re.match(r"(use [^{]*\{)(.*)\}(.*)$", i, re.S)
+                if not m:
+                    out.append(i)
+                    continue
+                ns = [n.strip() for n in m[2].split(",")]
+                kept = []
+                for n in ns:
+                    core = n.split(" as ")[-1]
+                    piece = core.strip("◌").split("◌")[0] if "◌" in core else core
+                    if re.search(rf"(?<![\w'-]){re.escape(piece)}(?![\w'₀-₉-])" if re.match(r"[\w]", piece) else re.escape(piece), body):
+                        kept.append(n)
+                if kept:
+                    out.append(m[1] + ", ".join(kept) + "}" + m[3])
+            return out
+        if inv:
+            invs = [(c, s, u, paths(b, names, left)) for c, s, u, b in inv]
+            (path.parent / "Invariants.antt").write_text("\n".join(used(invs) + [f"use Rattle.{crate}.proofs.{where}.Given as goal"]) + "\n\n" + "\n\n".join(show(i) for i in invs) + "\n")
+        if ans or helpers:
+            anss = [(c, s, u, paths(b, names, left), [paths(x, names, left) for x in more]) for c, s, u, b, more in ans]
+            hs = [("\n".join(c), s, u, "\n".join(cl)) for c, s, u, cl in helpers]
+            htext = "\n\n".join("\n".join(x for x in h if x) for h in hs)
+            use = used(anss + [([], htext, "", "")])
+            (path.parent / "Answers.antt").write_text("\n".join(use + [f"use Rattle.{crate}.proofs.{where}.Goals as goal"]) + "\n\n" + (htext + "\n\n" if htext else "") + "\n\n".join(show(i) for i in anss) + "\n")
+        path.unlink()
+        for l in left:
+            print(f"{where}: left: {l}")
+
+
+if __name__ == "__main__":
+    sys.exit(main())
