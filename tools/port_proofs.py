@@ -59,6 +59,7 @@ class Names:
                 if way:
                     self.arms[(flat(old), *way)] = f"{arm[0]}.{new}"
         asked = {b for _, b in d["asked_at"]}
+        self.own = {arm[0]: f[0] for arm in d["arms"] if arm for f in arm[2] if f[0].endswith("-own") and not f[2]}
         self.told = {k[0] for k in self.arms}
         self.places = {flat(p[0]): n if n in asked else re.sub(r"-\d+$", "", n) for p, n in zip(d["places"], d["places_by_name"])}
         for loop, _ in d["loops"]:
@@ -92,6 +93,7 @@ def paths(body, names, left):
         return ".".join([m[1], new, *parts[1:]]) if m[1] == "c" or flat(parts[0]) in names.fields and m[1] not in HEADS else m[0]
 
     body = re.sub(rf"(?<![\w.'-])([\w₀-₉']+)((?:\.{NAME})+)", one, body)
+    body = re.sub(rf"\.(in_default[\w-]*)\.rest\b", lambda m: f".{m[1]}.{names.own.get(m[1], m[1] + '-own')}.rest", body)
     deep = r"[^\s()]+|\((?:[^()]|\((?:[^()]|\([^()]*\))*\))*\)"
     body = re.sub(rf"\(not-(?:true|false) (?:{deep}) (\(?[\w.'-]*\.if-not-[^\s,()]*\.(?:true|false))\)", r"\1", body)
     return re.sub(rf"not-(?:true|false) (?:{deep}) (?=[\w.'-]*\.if-not-[^\s,()]*\.(?:true|false))", "", body)
@@ -157,7 +159,34 @@ def convert(path, names, crate, where):
         return body
 
     ans = [(c, s, u, b[: b.index("=")] + renamed(b[b.index("=") :]), [renamed(x) for x in more]) for c, s, u, b, more in ans]
-    return imports, head, inv, ans, helpers, left
+    # A helper over the facts of a place is written out, since each place has facts of its own.
+    macros, others = {}, []
+    for h in helpers:
+        m = re.match(rf"({NAME}) : (?:{{[^}}]*}} )?\(c : (?:goal|tie)\.", h[1])
+        if m and len(h[3]) == 1 and re.match(rf"{re.escape(m[1])} c\s*=", h[3][0]):
+            macros[m[1]] = ("(" + re.sub(r"\s*\n\s*", " ", h[3][0].split("=", 1)[1].strip()) + ")", h[2].split()[1:])
+        else:
+            others.append(h)
+
+    def written(body, opened):
+        for _ in range(20):
+            before = body
+            for name, (text, opens) in macros.items():
+                new = re.sub(rf"\(?(?<![\w.'-]){re.escape(name)} (?:c(?:\.before)*(?![\w.]))\)?" if False else rf"(?<![\w.'-]){re.escape(name)} c(?:\.before)*(?![\w.])", lambda m: text, body)
+                if new != body:
+                    opened.update(opens)
+                    body = new
+            if body == before:
+                return body
+        return body
+
+    done = []
+    for c, s, u, b, more in ans:
+        opened = set()
+        b = written(b, opened)
+        names_open = list(dict.fromkeys(u.split()[1:] + sorted(opened)))
+        done.append((c, s, "unfolding " + " ".join(names_open) if names_open else "", b, more))
+    return imports, head, inv, done, others, left
 
 
 def show(it):

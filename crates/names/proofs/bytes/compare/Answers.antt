@@ -1,4 +1,3 @@
-use Prim.Native.Nat.{◌-◌}
 use Rattle.names.proofs.Walks.{order_told, order_same, order_longer, order_shorter, order_end}
 use native.Mathlib.Omega.{arith}
 use Rattle.names.proofs.bytes.compare.Goals as goal

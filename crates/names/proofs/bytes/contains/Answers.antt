@@ -1,5 +1,4 @@
 use mathlib.Core.Path.{refl}
-use Prim.Native.Nat.{◌-◌}
 use native.Mathlib.Omega.{arith}
 use Rattle.names.proofs.Parts.{tail_part}
 use Rattle.names.proofs.Prefix.{starts_nothing}

@@ -1,34 +1,20 @@
-use mathlib.Core.Option.{some}
-use mathlib.Core.Path.{◌≡◌}
-use Prim.Native.Nat.{◌≤◌}
-use lib.ListN.{drop, length, take}
-use Rattle.names.specs.Means.{category_with}
-use Rattle.names.specs.Route.{route, route_as}
+use Rattle.names.specs.Route.{route_as}
 use Rattle.names.proofs.Classes.{off_within}
 use Rattle.names.proofs.Parts.{tail_part}
 use Rattle.names.proofs.Placed.{route_class, route_none}
 use Rattle.names.proofs.find.to_base_dir_and_relative_name.Goals as goal
 
--- One place for each category.
-by-class : (c : goal.In-As) → route c.args.s.now ≡ route_as (some (category_with (λ k. take k (drop 10 c.args.s.now)) c.in-As.category)) c.args.s.now (drop c.in-As.off c.args.s.now)
-by-class c =
-    route_class c.args.s.now c.category_and_short_name-k.result
-    c.category_and_short_name-k.ensures c.in-As.category c.in-As.off c.in-As.is
-
-within : (c : goal.In-As) → c.in-As.off ≤ length c.args.s.now
-within c = rw (← c.category_and_short_name-k.ensures, c.in-As.is) at (off_within c.args.s.now)
-
 pub slice_bounds-is_private-count : goal.slice_bounds-is_private-count
-slice_bounds-is_private-count c = within c
+slice_bounds-is_private-count c = (rw (← c.category_and_short_name-k.ensures, c.in-As.is) at (off_within c.args.s.now))
 
 pub slice_bounds-is_private-start : goal.slice_bounds-is_private-start
-slice_bounds-is_private-start c = within c
+slice_bounds-is_private-start c = (rw (← c.category_and_short_name-k.ensures, c.in-As.is) at (off_within c.args.s.now))
 
 pub returns-in-Tag : goal.returns-in-Tag
 unfolding route_as
 returns-in-Tag c =
     rw (
-      by-class c,
+      (route_class c.args.s.now c.category_and_short_name-k.result c.category_and_short_name-k.ensures c.in-As.category c.in-As.off c.in-As.is),
       c.in-Tag.is,
     )
     (c.shared_from.ensures c.args.s.now)
@@ -37,7 +23,7 @@ pub returns-in-LocalBranch : goal.returns-in-LocalBranch
 unfolding route_as
 returns-in-LocalBranch c =
     rw (
-      by-class c,
+      (route_class c.args.s.now c.category_and_short_name-k.result c.category_and_short_name-k.ensures c.in-As.category c.in-As.off c.in-As.is),
       c.in-LocalBranch.is,
     )
     (c.shared_from-in-LocalBranch.ensures c.args.s.now)
@@ -46,7 +32,7 @@ pub returns-in-RemoteBranch : goal.returns-in-RemoteBranch
 unfolding route_as
 returns-in-RemoteBranch c =
     rw (
-      by-class c,
+      (route_class c.args.s.now c.category_and_short_name-k.result c.category_and_short_name-k.ensures c.in-As.category c.in-As.off c.in-As.is),
       c.in-RemoteBranch.is,
     )
     (c.shared_from-in-RemoteBranch.ensures c.args.s.now)
@@ -55,7 +41,7 @@ pub returns-in-Note : goal.returns-in-Note
 unfolding route_as
 returns-in-Note c =
     rw (
-      by-class c,
+      (route_class c.args.s.now c.category_and_short_name-k.result c.category_and_short_name-k.ensures c.in-As.category c.in-As.off c.in-As.is),
       c.in-Note.is,
     )
     (c.shared_from-in-Note.ensures c.args.s.now)
@@ -64,7 +50,7 @@ pub returns-in-PseudoRef : goal.returns-in-PseudoRef
 unfolding route_as
 returns-in-PseudoRef c =
     rw (
-      by-class c,
+      (route_class c.args.s.now c.category_and_short_name-k.result c.category_and_short_name-k.ensures c.in-As.category c.in-As.off c.in-As.is),
       c.in-PseudoRef.is,
     )
     (c.own_whole.ensures c.args.s.now)
@@ -73,7 +59,7 @@ pub returns-in-MainPseudoRef : goal.returns-in-MainPseudoRef
 unfolding route_as
 returns-in-MainPseudoRef c =
     rw (
-      by-class c,
+      (route_class c.args.s.now c.category_and_short_name-k.result c.category_and_short_name-k.ensures c.in-As.category c.in-As.off c.in-As.is),
       c.in-MainPseudoRef.is,
     )
     (c.shared_from-in-MainPseudoRef.ensures c.args.s.now)
@@ -82,7 +68,7 @@ pub returns-in-MainRef : goal.returns-in-MainRef
 unfolding route_as
 returns-in-MainRef c =
     rw (
-      by-class c,
+      (route_class c.args.s.now c.category_and_short_name-k.result c.category_and_short_name-k.ensures c.in-As.category c.in-As.off c.in-As.is),
       c.in-MainRef.is,
     )
     (c.shared_from-in-MainRef.ensures c.args.s.now)
@@ -91,7 +77,7 @@ pub returns-in-LinkedPseudoRef : goal.returns-in-LinkedPseudoRef
 unfolding route_as
 returns-in-LinkedPseudoRef c =
     rw (
-      by-class c,
+      (route_class c.args.s.now c.category_and_short_name-k.result c.category_and_short_name-k.ensures c.in-As.category c.in-As.off c.in-As.is),
       c.in-LinkedPseudoRef.is,
     )
     (c.shared_from-in-LinkedPseudoRef.ensures c.args.s.now)
@@ -100,7 +86,7 @@ pub returns-then-is_private : goal.returns-then-is_private
 unfolding route_as
 returns-then-is_private c =
     rw (
-      by-class c,
+      (route_class c.args.s.now c.category_and_short_name-k.result c.category_and_short_name-k.ensures c.in-As.category c.in-As.off c.in-As.is),
       c.in-LinkedRef.is,
       ← (rw tail_part at c.is_private.ensures),
       c.if-is_private.true,
@@ -111,7 +97,7 @@ pub returns-else-is_private : goal.returns-else-is_private
 unfolding route_as
 returns-else-is_private c =
     rw (
-      by-class c,
+      (route_class c.args.s.now c.category_and_short_name-k.result c.category_and_short_name-k.ensures c.in-As.category c.in-As.off c.in-As.is),
       c.in-LinkedRef.is,
       ← (rw tail_part at c.is_private.ensures),
       c.if-is_private.false,
@@ -122,7 +108,7 @@ pub returns-in-Bisect : goal.returns-in-Bisect
 unfolding route_as
 returns-in-Bisect c =
     rw (
-      by-class c,
+      (route_class c.args.s.now c.category_and_short_name-k.result c.category_and_short_name-k.ensures c.in-As.category c.in-As.off c.in-As.is),
       c.in-Bisect.is,
     )
     (c.own_whole-in-Bisect.ensures c.args.s.now)
@@ -131,7 +117,7 @@ pub returns-in-Rewritten : goal.returns-in-Rewritten
 unfolding route_as
 returns-in-Rewritten c =
     rw (
-      by-class c,
+      (route_class c.args.s.now c.category_and_short_name-k.result c.category_and_short_name-k.ensures c.in-As.category c.in-As.off c.in-As.is),
       c.in-Rewritten.is,
     )
     (c.own_whole-in-Rewritten.ensures c.args.s.now)
@@ -140,7 +126,7 @@ pub returns-in-WorktreePrivate : goal.returns-in-WorktreePrivate
 unfolding route_as
 returns-in-WorktreePrivate c =
     rw (
-      by-class c,
+      (route_class c.args.s.now c.category_and_short_name-k.result c.category_and_short_name-k.ensures c.in-As.category c.in-As.off c.in-As.is),
       c.in-WorktreePrivate.is,
     )
     (c.own_whole-in-WorktreePrivate.ensures c.args.s.now)

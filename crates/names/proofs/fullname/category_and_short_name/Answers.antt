@@ -2,51 +2,10 @@ use mathlib.Core.Path.{◌∙◌, sym}
 use lib.Dec.{lit<}
 use lib.ListN.{drop, take}
 use Rattle.names.specs.Bytes.{bytes}
-use Rattle.names.proofs.Classes.{Left, fails, first, holds, tries, untried}
+use Rattle.names.proofs.Classes.{fails, first, holds, tries, untried}
 use Rattle.names.proofs.Parts.{tail_part}
 use Rattle.names.proofs.Prefix.{starts_length}
 use Rattle.names.proofs.fullname.category_and_short_name.Goals as goal
-
--- The tests are those of the definition, one after the other.
-left-1 : (c : goal.Else-starts_with) → Left 1 c.args.s.now
-unfolding tries
-left-1 c = fails (untried c.args.s.now) (lit< tt) (sym c.starts_with.ensures ∙ c.if-starts_with.false)
-
-left-2 : (c : goal.Else-starts_with) → Left 2 c.args.s.now
-unfolding tries
-left-2 c = fails (left-1 c) (lit< tt) (sym c.starts_with-2.ensures ∙ c.if-starts_with-2.false)
-
-left-3 : (c : goal.Else-starts_with) → Left 3 c.args.s.now
-unfolding tries
-left-3 c = fails (left-2 c) (lit< tt) (sym c.starts_with-3.ensures ∙ c.if-starts_with-3.false)
-
-left-4 : (c : goal.Else-starts_with) → Left 4 c.args.s.now
-unfolding tries
-left-4 c = fails (left-3 c) (lit< tt) (sym c.starts_with-4.ensures ∙ c.if-starts_with-4.false)
-
-left-5 : (c : goal.Else-starts_with) → Left 5 c.args.s.now
-unfolding tries
-left-5 c = fails (left-4 c) (lit< tt) (sym c.starts_with-5.ensures ∙ c.if-starts_with-5.false)
-
-left-6 : (c : goal.Else-starts_with) → Left 6 c.args.s.now
-unfolding tries
-left-6 c = fails (left-5 c) (lit< tt) (sym c.starts_with-6.ensures ∙ c.if-starts_with-6.false)
-
-left-7 : (c : goal.Else-starts_with-7) → Left 7 c.args.s.now
-unfolding tries
-left-7 c = fails (left-6 c) (lit< tt) (sym c.starts_with-7.ensures ∙ c.if-starts_with-7.false)
-
-left-8 : (c : goal.Else-is_pseudo_ref) → Left 8 c.args.s.now
-unfolding tries
-left-8 c = fails (left-7 c) (lit< tt) (sym c.is_pseudo_ref.ensures ∙ c.if-is_pseudo_ref.false)
-
-left-9 : (c : goal.Else-starts_with) → Left 9 c.args.s.now
-unfolding tries
-left-9 c = fails (left-8 c) (lit< tt) (sym c.starts_with-8.ensures ∙ c.if-starts_with-8.false)
-
-left-10 : (c : goal.Else-starts_with-9) → Left 10 c.args.s.now
-unfolding tries
-left-10 c = fails (left-9 c) (lit< tt) (sym c.starts_with-9.ensures ∙ c.if-starts_with-9.false)
 
 pub returns-then-starts_with : goal.returns-then-starts_with
 unfolding tries
@@ -57,36 +16,36 @@ returns-then-starts_with c =
 pub returns-then-starts_with-2 : goal.returns-then-starts_with-2
 unfolding tries
 returns-then-starts_with-2 c =
-    c.classified-then-starts_with-2.ensures _ ∙ sym (holds (left-1 c) (lit< tt) (sym c.starts_with-2.ensures ∙ c.if-starts_with-2.true))
+    c.classified-then-starts_with-2.ensures _ ∙ sym (holds ((fails (untried c.args.s.now) (lit< tt) (sym c.starts_with.ensures ∙ c.if-starts_with.false))) (lit< tt) (sym c.starts_with-2.ensures ∙ c.if-starts_with-2.true))
 
 pub returns-then-starts_with-3 : goal.returns-then-starts_with-3
 unfolding tries
 returns-then-starts_with-3 c =
-    c.classified-then-starts_with-3.ensures _ ∙ sym (holds (left-2 c) (lit< tt) (sym c.starts_with-3.ensures ∙ c.if-starts_with-3.true))
+    c.classified-then-starts_with-3.ensures _ ∙ sym (holds ((fails ((fails (untried c.args.s.now) (lit< tt) (sym c.starts_with.ensures ∙ c.if-starts_with.false))) (lit< tt) (sym c.starts_with-2.ensures ∙ c.if-starts_with-2.false))) (lit< tt) (sym c.starts_with-3.ensures ∙ c.if-starts_with-3.true))
 
 pub returns-then-starts_with-4 : goal.returns-then-starts_with-4
 unfolding tries
 returns-then-starts_with-4 c =
-    c.classified-then-starts_with-4.ensures _ ∙ sym (holds (left-3 c) (lit< tt) (sym c.starts_with-4.ensures ∙ c.if-starts_with-4.true))
+    c.classified-then-starts_with-4.ensures _ ∙ sym (holds ((fails ((fails ((fails (untried c.args.s.now) (lit< tt) (sym c.starts_with.ensures ∙ c.if-starts_with.false))) (lit< tt) (sym c.starts_with-2.ensures ∙ c.if-starts_with-2.false))) (lit< tt) (sym c.starts_with-3.ensures ∙ c.if-starts_with-3.false))) (lit< tt) (sym c.starts_with-4.ensures ∙ c.if-starts_with-4.true))
 
 pub returns-then-starts_with-5 : goal.returns-then-starts_with-5
 unfolding tries
 returns-then-starts_with-5 c =
-    c.classified-then-starts_with-5.ensures _ ∙ sym (holds (left-4 c) (lit< tt) (sym c.starts_with-5.ensures ∙ c.if-starts_with-5.true))
+    c.classified-then-starts_with-5.ensures _ ∙ sym (holds ((fails ((fails ((fails ((fails (untried c.args.s.now) (lit< tt) (sym c.starts_with.ensures ∙ c.if-starts_with.false))) (lit< tt) (sym c.starts_with-2.ensures ∙ c.if-starts_with-2.false))) (lit< tt) (sym c.starts_with-3.ensures ∙ c.if-starts_with-3.false))) (lit< tt) (sym c.starts_with-4.ensures ∙ c.if-starts_with-4.false))) (lit< tt) (sym c.starts_with-5.ensures ∙ c.if-starts_with-5.true))
 
 pub returns-then-starts_with-6 : goal.returns-then-starts_with-6
 unfolding tries
 returns-then-starts_with-6 c =
-    c.classified-then-starts_with-6.ensures _ ∙ sym (holds (left-5 c) (lit< tt) (sym c.starts_with-6.ensures ∙ c.if-starts_with-6.true))
+    c.classified-then-starts_with-6.ensures _ ∙ sym (holds ((fails ((fails ((fails ((fails ((fails (untried c.args.s.now) (lit< tt) (sym c.starts_with.ensures ∙ c.if-starts_with.false))) (lit< tt) (sym c.starts_with-2.ensures ∙ c.if-starts_with-2.false))) (lit< tt) (sym c.starts_with-3.ensures ∙ c.if-starts_with-3.false))) (lit< tt) (sym c.starts_with-4.ensures ∙ c.if-starts_with-4.false))) (lit< tt) (sym c.starts_with-5.ensures ∙ c.if-starts_with-5.false))) (lit< tt) (sym c.starts_with-6.ensures ∙ c.if-starts_with-6.true))
 
 pub returns-then-starts_with-7 : goal.returns-then-starts_with-7
 unfolding tries
 returns-then-starts_with-7 c =
-    c.classified-then-starts_with-7.ensures _ ∙ sym (holds (left-6 c) (lit< tt) (sym c.starts_with-7.ensures ∙ c.if-starts_with-7.true))
+    c.classified-then-starts_with-7.ensures _ ∙ sym (holds ((fails ((fails ((fails ((fails ((fails ((fails (untried c.args.s.now) (lit< tt) (sym c.starts_with.ensures ∙ c.if-starts_with.false))) (lit< tt) (sym c.starts_with-2.ensures ∙ c.if-starts_with-2.false))) (lit< tt) (sym c.starts_with-3.ensures ∙ c.if-starts_with-3.false))) (lit< tt) (sym c.starts_with-4.ensures ∙ c.if-starts_with-4.false))) (lit< tt) (sym c.starts_with-5.ensures ∙ c.if-starts_with-5.false))) (lit< tt) (sym c.starts_with-6.ensures ∙ c.if-starts_with-6.false))) (lit< tt) (sym c.starts_with-7.ensures ∙ c.if-starts_with-7.true))
 
 pub returns-then-is_pseudo_ref : goal.returns-then-is_pseudo_ref
 unfolding tries
-returns-then-is_pseudo_ref c = c.classified-then-is_pseudo_ref.ensures _ ∙ sym (holds (left-7 c) (lit< tt) (sym c.is_pseudo_ref.ensures ∙ c.if-is_pseudo_ref.true))
+returns-then-is_pseudo_ref c = c.classified-then-is_pseudo_ref.ensures _ ∙ sym (holds ((fails ((fails ((fails ((fails ((fails ((fails ((fails (untried c.args.s.now) (lit< tt) (sym c.starts_with.ensures ∙ c.if-starts_with.false))) (lit< tt) (sym c.starts_with-2.ensures ∙ c.if-starts_with-2.false))) (lit< tt) (sym c.starts_with-3.ensures ∙ c.if-starts_with-3.false))) (lit< tt) (sym c.starts_with-4.ensures ∙ c.if-starts_with-4.false))) (lit< tt) (sym c.starts_with-5.ensures ∙ c.if-starts_with-5.false))) (lit< tt) (sym c.starts_with-6.ensures ∙ c.if-starts_with-6.false))) (lit< tt) (sym c.starts_with-7.ensures ∙ c.if-starts_with-7.false))) (lit< tt) (sym c.is_pseudo_ref.ensures ∙ c.if-is_pseudo_ref.true))
 
 pub slice_bounds-classify_below-count : goal.slice_bounds-classify_below-count
 slice_bounds-classify_below-count c =
@@ -100,7 +59,7 @@ slice_bounds-classify_below-start c = slice_bounds-classify_below-count c
 pub returns-then-starts_with-8 : goal.returns-then-starts_with-8
 unfolding tries
 returns-then-starts_with-8 c =
-    (rw tail_part at (c.classify_below.ensures (λ k. take k (drop 10 c.args.s.now)))) ∙ sym (holds (left-8 c) (lit< tt) (sym c.starts_with-8.ensures ∙ c.if-starts_with-8.true))
+    (rw tail_part at (c.classify_below.ensures (λ k. take k (drop 10 c.args.s.now)))) ∙ sym (holds ((fails ((fails ((fails ((fails ((fails ((fails ((fails ((fails (untried c.args.s.now) (lit< tt) (sym c.starts_with.ensures ∙ c.if-starts_with.false))) (lit< tt) (sym c.starts_with-2.ensures ∙ c.if-starts_with-2.false))) (lit< tt) (sym c.starts_with-3.ensures ∙ c.if-starts_with-3.false))) (lit< tt) (sym c.starts_with-4.ensures ∙ c.if-starts_with-4.false))) (lit< tt) (sym c.starts_with-5.ensures ∙ c.if-starts_with-5.false))) (lit< tt) (sym c.starts_with-6.ensures ∙ c.if-starts_with-6.false))) (lit< tt) (sym c.starts_with-7.ensures ∙ c.if-starts_with-7.false))) (lit< tt) (sym c.is_pseudo_ref.ensures ∙ c.if-is_pseudo_ref.false))) (lit< tt) (sym c.starts_with-8.ensures ∙ c.if-starts_with-8.true))
 
 pub slice_bounds-classify_linked-count : goal.slice_bounds-classify_linked-count
 slice_bounds-classify_linked-count c =
@@ -114,8 +73,8 @@ slice_bounds-classify_linked-start c = slice_bounds-classify_linked-count c
 pub returns-then-starts_with-9 : goal.returns-then-starts_with-9
 unfolding tries
 returns-then-starts_with-9 c =
-    (simp tail_part at c.classify_linked.ensures) ∙ sym (holds (left-9 c) (lit< tt) (sym c.starts_with-9.ensures ∙ c.if-starts_with-9.true))
+    (simp tail_part at c.classify_linked.ensures) ∙ sym (holds ((fails ((fails ((fails ((fails ((fails ((fails ((fails ((fails ((fails (untried c.args.s.now) (lit< tt) (sym c.starts_with.ensures ∙ c.if-starts_with.false))) (lit< tt) (sym c.starts_with-2.ensures ∙ c.if-starts_with-2.false))) (lit< tt) (sym c.starts_with-3.ensures ∙ c.if-starts_with-3.false))) (lit< tt) (sym c.starts_with-4.ensures ∙ c.if-starts_with-4.false))) (lit< tt) (sym c.starts_with-5.ensures ∙ c.if-starts_with-5.false))) (lit< tt) (sym c.starts_with-6.ensures ∙ c.if-starts_with-6.false))) (lit< tt) (sym c.starts_with-7.ensures ∙ c.if-starts_with-7.false))) (lit< tt) (sym c.is_pseudo_ref.ensures ∙ c.if-is_pseudo_ref.false))) (lit< tt) (sym c.starts_with-8.ensures ∙ c.if-starts_with-8.false))) (lit< tt) (sym c.starts_with-9.ensures ∙ c.if-starts_with-9.true))
 
 pub returns : goal.returns
 unfolding tries first
-returns c = sym (left-10 c).is
+returns c = sym ((fails ((fails ((fails ((fails ((fails ((fails ((fails ((fails ((fails ((fails (untried c.args.s.now) (lit< tt) (sym c.starts_with.ensures ∙ c.if-starts_with.false))) (lit< tt) (sym c.starts_with-2.ensures ∙ c.if-starts_with-2.false))) (lit< tt) (sym c.starts_with-3.ensures ∙ c.if-starts_with-3.false))) (lit< tt) (sym c.starts_with-4.ensures ∙ c.if-starts_with-4.false))) (lit< tt) (sym c.starts_with-5.ensures ∙ c.if-starts_with-5.false))) (lit< tt) (sym c.starts_with-6.ensures ∙ c.if-starts_with-6.false))) (lit< tt) (sym c.starts_with-7.ensures ∙ c.if-starts_with-7.false))) (lit< tt) (sym c.is_pseudo_ref.ensures ∙ c.if-is_pseudo_ref.false))) (lit< tt) (sym c.starts_with-8.ensures ∙ c.if-starts_with-8.false))) (lit< tt) (sym c.starts_with-9.ensures ∙ c.if-starts_with-9.false))).is

@@ -1,5 +1,4 @@
 use mathlib.Core.Path.{sym}
-use Prim.Native.Nat.{◌-◌}
 use native.Mathlib.Omega.{arith}
 use Rattle.names.specs.Category.{first_slash}
 use Rattle.names.proofs.Classes.{from_start, slash_here, slash_later, slash_nowhere}

@@ -1,19 +1,13 @@
-use Prim.Native.Nat.{◌≤◌}
-use lib.ListN.{length}
 use Rattle.names.specs.Category.{short_name}
 use Rattle.names.proofs.Classes.{off_within}
 use Rattle.names.proofs.Parts.{tail_part}
 use Rattle.names.proofs.fullname.short_name.Goals as goal
 
--- What the category takes off is there.
-within : (c : goal.In-As) → c.in-As.off ≤ length c.args.s.now
-within c = rw (← c.category_and_short_name-k.ensures, c.in-As.is) at (off_within c.args.s.now)
-
 pub slice_bounds-result-count : goal.slice_bounds-result-count
-slice_bounds-result-count c = within c
+slice_bounds-result-count c = (rw (← c.category_and_short_name-k.ensures, c.in-As.is) at (off_within c.args.s.now))
 
 pub slice_bounds-result-start : goal.slice_bounds-result-start
-slice_bounds-result-start c = within c
+slice_bounds-result-start c = (rw (← c.category_and_short_name-k.ensures, c.in-As.is) at (off_within c.args.s.now))
 
 pub returns-in-As : goal.returns-in-As
 unfolding short_name

@@ -1,5 +1,4 @@
 use mathlib.Core.Path.{refl}
-use Prim.Native.Nat.{◌-◌}
 use native.Mathlib.Omega.{arith}
 use Rattle.names.specs.Name.{is_pseudo, pseudo_byte}
 use Rattle.names.proofs.Walks.{every_at, every_end}

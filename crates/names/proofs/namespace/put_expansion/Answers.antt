@@ -1,5 +1,4 @@
 use mathlib.Core.Path.{refl, sym}
-use Prim.Native.Nat.{◌-◌}
 use native.Mathlib.Omega.{arith}
 use Rattle.names.specs.Means.{held}
 use Rattle.names.proofs.Expansions.{from_start, part_put, part_refused, part_within, turns_end}

@@ -21,4 +21,4 @@ returns-in-32 c = rw (listed c.args.b (bytes " *:?[^~") (127 ∷ 92 ∷ bytes " 
 pub returns-in_default : goal.returns-in_default
 unfolding every contains starts_with
 returns-in_default c =
-    rw (le-ltb c.args.b 32 c.if-b-lt32.false, unlisted c.args.b (92 ∷ 127 ∷ []) (bytes " *:?[^~") (127 ∷ 92 ∷ bytes " ~^:?*[") refl c.in_default.rest.0.1 c.in_default.rest.1)
+    rw (le-ltb c.args.b 32 c.if-b-lt32.false, unlisted c.args.b (92 ∷ 127 ∷ []) (bytes " *:?[^~") (127 ∷ 92 ∷ bytes " ~^:?*[") refl c.in_default.in_default-own.rest.0.1 c.in_default.in_default-own.rest.1)

@@ -1,5 +1,4 @@
 use mathlib.Core.Bool.{and-false}
-use borrow.Author.Rules.{rules}
 use borrow.Author.Tests.{eq-eqb, ne_eqb}
 use Rattle.names.proofs.ByteRules.{dot_at}
 use Rattle.names.proofs.validate.dot_fits.Goals as goal

@@ -15,4 +15,4 @@ pub returns-in-123 : goal.returns-in-123
 returns-in-123 c = sym (brace_at c.args.p c.args.t.now c.requires c.in-123.is)
 
 pub returns-in_default : goal.returns-in_default
-returns-in_default c = c.allowed_byte.ensures ∙ sym (other_at c.args.p c.args.t.now c.requires c.in_default.rest.0.0.1 c.in_default.rest.0.1 c.in_default.rest.1)
+returns-in_default c = c.allowed_byte.ensures ∙ sym (other_at c.args.p c.args.t.now c.requires c.in_default.in_default-own.rest.0.0.1 c.in_default.in_default-own.rest.0.1 c.in_default.in_default-own.rest.1)

@@ -1,5 +1,4 @@
 use mathlib.Core.Path.{refl, sym, ◌∙◌}
-use Prim.Native.Nat.{◌-◌}
 use native.Mathlib.Omega.{arith}
 use Rattle.names.proofs.ByteRules.{before_next, first_plain, rules_sure}
 use Rattle.names.proofs.validate.sure_front.Goals as goal
