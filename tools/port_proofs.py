@@ -93,6 +93,7 @@ def paths(body, names, left):
         return ".".join([m[1], new, *parts[1:]]) if m[1] == "c" or flat(parts[0]) in names.fields and m[1] not in HEADS else m[0]
 
     body = re.sub(rf"(?<![\w.'-])([\w₀-₉']+)((?:\.{NAME})+)", one, body)
+    body = re.sub(rf"(?<=args\.){NAME}", lambda m: m[0].replace("-", "_"), body)
     body = re.sub(rf"\.(in_default[\w-]*)\.rest\b", lambda m: f".{m[1]}.{names.own.get(m[1], m[1] + '-own')}.rest", body)
     deep = r"[^\s()]+|\((?:[^()]|\((?:[^()]|\([^()]*\))*\))*\)"
     body = re.sub(rf"\(not-(?:true|false) (?:{deep}) (\(?[\w.'-]*\.if-not-[^\s,()]*\.(?:true|false))\)", r"\1", body)

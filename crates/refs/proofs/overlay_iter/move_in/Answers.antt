@@ -1,0 +1,7 @@
+use Rattle.refs.proofs.overlay_iter.move_in.Reads as reads
+use Rattle.refs.proofs.overlay_iter.choose.Reads as choose-reads
+use Rattle.refs.proofs.overlay_iter.peek.Reads as peek-reads
+use Rattle.refs.proofs.overlay_iter.move_in.Goals as goal
+
+pub returns : goal.returns
+returns c = rw (c.peek-w.ensures, c.peek-c.ensures, c.peek-p.ensures) at (c.choose.ensures c.args.e.now)
