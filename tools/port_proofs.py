@@ -95,6 +95,7 @@ def paths(body, names, left):
     body = re.sub(rf"(?<![\w.'-])([\w₀-₉']+)((?:\.{NAME})+)", one, body)
     body = re.sub(rf"(?<=args\.){NAME}", lambda m: m[0].replace("-", "_"), body)
     body = re.sub(rf"\.(in_default[\w-]*)\.rest\b", lambda m: f".{m[1]}.{names.own.get(m[1], m[1] + '-own')}.rest", body)
+    body = re.sub(r"(\.if-[^\s,().]*)\.(taken|left)\b", lambda m: m[1] + (".true" if m[2] == "taken" else ".false"), body)
     deep = r"[^\s()]+|\((?:[^()]|\((?:[^()]|\([^()]*\))*\))*\)"
     body = re.sub(rf"\(not-(?:true|false) (?:{deep}) (\(?[\w.'-]*\.if-not-[^\s,()]*\.(?:true|false))\)", r"\1", body)
     return re.sub(rf"not-(?:true|false) (?:{deep}) (?=[\w.'-]*\.if-not-[^\s,()]*\.(?:true|false))", "", body)
@@ -133,7 +134,7 @@ def convert(path, names, crate, where):
                 table[p] = "l." + v
             if len(params) < len(live) + len(rest):
                 left.append(f"{m[3]}: {params} for {live} {changed}")
-            rhs = re.sub(r"(?<![\w.'₀-₉-])([\w'₀-₉]+)(?![\w'₀-₉-])", lambda t: table.get(t[1], t[1]), rhs)
+            rhs = re.sub(r"(?<![\w.'₀-₉-])([\w'₀-₉-]+)(?![\w'₀-₉-])", lambda t: table.get(t[1], t[1]), rhs)
             inv.append((comment, f"abbrev pub {kind}-{new} : goal.{kind}-{new}", unfolding, f"{kind}-{new} l ={rhs}"))
             local[m[2]] = f"{kind}-{new}"
         elif m and m[3].startswith("Need-"):

@@ -1,6 +1,5 @@
 use mathlib.Core.Path.{◌∙◌, sym, ap}
 use Rattle.names.specs.Means.{ordering}
-use Prim.Native.Nat.{◌-◌}
 use native.Mathlib.Omega.{arith}
 use Rattle.refs.proofs.Halves.{bracket_start, bracket_up, bracket_down, bracket_found, bracket_none}
 use Rattle.refs.proofs.find.block_of.Goals as goal

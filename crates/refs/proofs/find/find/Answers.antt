@@ -7,14 +7,6 @@ use Rattle.refs.proofs.Checks.{gate_passes, fit_regions}
 use Rattle.refs.proofs.Calls.{found_stops, found_passes}
 use Rattle.names.specs.Means.{content}
 use Rattle.refs.proofs.Lookups.{hit_answer}
-use Rattle.refs.proofs.find.find.Reads as reads
-use Rattle.names.proofs.name.lend.Reads as lend-reads
-use Rattle.refs.proofs.check.check_call.Reads as check-call-reads
-use Rattle.refs.proofs.check.is_passed.Reads as is-passed-reads
-use Rattle.refs.proofs.find.find_one_with_verified_input.Reads as find-one-with-verified-input-reads
-use Rattle.refs.proofs.find.no_answer.Reads as no-answer-reads
-use Rattle.refs.proofs.find.reference_of.Reads as reference-of-reads
-use Rattle.refs.proofs.find.said_of.Reads as said-of-reads
 use Rattle.refs.proofs.find.find.Goals as goal
 
 pub returns-then-not-is_passed : goal.returns-then-not-is_passed

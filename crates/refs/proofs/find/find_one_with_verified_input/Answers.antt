@@ -2,11 +2,6 @@ use mathlib.Core.Path.{refl, sym, ◌∙◌}
 use Rattle.blocks.specs.Means.{if_there, snapshot_of}
 use Rattle.refs.proofs.Lookups.{same_place}
 use Rattle.refs.proofs.Searching.{search_first, search_one, search_second, search_last}
-use Rattle.refs.proofs.find.find_one_with_verified_input.Reads as reads
-use Rattle.names.proofs.name.is_pseudo_ref.Reads as is-pseudo-ref-reads
-use Rattle.refs.proofs.find.is_somewhere.Reads as is-somewhere-reads
-use Rattle.refs.proofs.find.one_pass.Reads as one-pass-reads
-use Rattle.refs.proofs.find.try_remote_head.Reads as try-remote-head-reads
 use Rattle.refs.proofs.find.find_one_with_verified_input.Goals as goal
 
 pub returns-then-is_somewhere : goal.returns-then-is_somewhere

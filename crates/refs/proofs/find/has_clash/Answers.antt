@@ -1,5 +1,4 @@
 use mathlib.Core.Path.{refl, sym, ◌∙◌}
-use Prim.Native.Nat.{◌-◌}
 use native.Mathlib.Omega.{arith}
 use Rattle.refs.proofs.Regions.{clash_here, clash_next, clash_end}
 use Rattle.refs.proofs.find.has_clash.Goals as goal

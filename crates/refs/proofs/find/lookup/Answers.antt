@@ -1,14 +1,6 @@
 use lib.ListN.{drop}
 use Rattle.names.specs.Means.{base_of}
 use Rattle.refs.proofs.Lookups.{no_place, lookup_clash, lookup_loose, lookup_record, lookup_none}
-use Rattle.refs.proofs.find.lookup.Reads as reads
-use Rattle.names.proofs.find.to_base_dir_and_relative_name.Reads as to-base-dir-and-relative-name-reads
-use Rattle.refs.proofs.find.block_of.Reads as block-of-reads
-use Rattle.refs.proofs.find.has_clash.Reads as has-clash-reads
-use Rattle.refs.proofs.find.packed_index.Reads as packed-index-reads
-use Rattle.refs.proofs.find.region_read.Reads as region-read-reads
-use Rattle.refs.proofs.find.tail.Reads as tail-reads
-use Rattle.refs.proofs.place.part.Reads as part-reads
 use Rattle.refs.proofs.find.lookup.Goals as goal
 
 pub returns-then-has_clash : goal.returns-then-has_clash

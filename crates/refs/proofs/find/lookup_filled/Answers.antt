@@ -1,9 +1,6 @@
 use Rattle.blocks.specs.Means.{if_there, snapshot_of}
 use Rattle.refs.proofs.Lookups.{no_place}
 use Rattle.refs.proofs.Searching.{filled_absent, filled_there}
-use Rattle.refs.proofs.find.lookup_filled.Reads as reads
-use Rattle.names.proofs.name.front.Reads as front_reads
-use Rattle.refs.proofs.find.lookup.Reads as lookup-reads
 use Rattle.refs.proofs.find.lookup_filled.Goals as goal
 
 pub returns-in-To : goal.returns-in-To

@@ -1,7 +1,5 @@
 use mathlib.Core.Path.{refl}
 use Rattle.refs.proofs.Lookups.{no_place}
-use Rattle.refs.proofs.find.no_hit.Reads as reads
-use Rattle.names.proofs.name.empty.Reads as empty-reads
 use Rattle.refs.proofs.find.no_hit.Goals as goal
 
 pub returns : goal.returns

@@ -1,7 +1,5 @@
 use mathlib.Core.Path.{refl, sym, ◌∙◌}
 use mathlib.Core.Bool.{true}
-use mathlib.Core.Logic.{⊎_elim}
-use Prim.Native.Nat.{◌-◌}
 use Rattle.names.specs.Candidates.{full_name}
 use Rattle.blocks.specs.Means.{if_there, snapshot_of}
 use Rattle.refs.specs.Answer.{nothing}
@@ -9,6 +7,7 @@ use Rattle.refs.specs.Promises.{between, looked_up}
 use Rattle.refs.proofs.Searching.{stands_start, stands_next, pass_found, pass_early, pass_end}
 use native.Mathlib.Omega.{arith}
 use Rattle.refs.proofs.find.one_pass.Goals as goal
+use Rattle.refs.proofs.find.one_pass.Goals.{else-try_directories-test, then-try_directories-test+else-is_somewhere+then-one}
 
 pub try_directories-init : goal.try_directories-init
 try_directories-init c =
@@ -39,8 +38,10 @@ returns c =
     let loop = c.try_directories in
     record {
       answer = nothing;
-      first = λ rest. ⊎_elim (λ w. pass_end args.e.now (snapshot_of args.worktree.now (if_there args.has_common args.common.now) args.packed.now) args.x.now args.pseudo args.one loop.d loop.invariant (omega arith) rest)
-          (λ w. pass_early args.e.now (snapshot_of args.worktree.now (if_there args.has_common args.common.now) args.packed.now) args.x.now args.pseudo args.one loop.d loop.invariant (omega (arith, w.0.taken)) _ refl (w.1.ensures.there ∙ sym w.2.ensures ∙ w.3.left) w.4.taken rest)
-          c.try_directories-test.branch;
+      first = λ rest. elim c.try_directories-test.branch [
+        | else-try_directories-test w ↦ pass_end args.e.now (snapshot_of args.worktree.now (if_there args.has_common args.common.now) args.packed.now) args.x.now args.pseudo args.one loop.d loop.invariant (omega arith) rest
+        | then-try_directories-test+else-is_somewhere+then-one w ↦
+            pass_early args.e.now (snapshot_of args.worktree.now (if_there args.has_common args.common.now) args.packed.now) args.x.now args.pseudo args.one loop.d loop.invariant (omega arith) _ refl (w.try_directory-h.ensures.there ∙ sym w.is_somewhere.ensures ∙ w.if-is_somewhere.false) w.if-one.true rest
+      ];
       hit = c.no_hit.ensures args.e.now args.worktree.now args.common.now args.packed.now;
     }

@@ -1,6 +1,4 @@
 use borrow.Author.Tests.{ne_eqb}
-use Rattle.refs.proofs.find.put_candidate.Reads as reads
-use Rattle.names.proofs.name.construct_full_name_ref.Reads as construct-full-name-ref-reads
 use Rattle.refs.proofs.find.put_candidate.Goals as goal
 
 pub returns-in-1 : goal.returns-in-1

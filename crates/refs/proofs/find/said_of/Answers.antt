@@ -2,12 +2,6 @@ use mathlib.Core.Path.{refl, ◌∙◌}
 use Rattle.blocks.specs.Means.{id_width}
 use Rattle.blocks.proofs.Sound.{fit_taken}
 use Rattle.refs.specs.Means.{place_region, place_bytes, place_block}
-use Rattle.refs.proofs.find.said_of.Reads as reads
-use Rattle.blocks.proofs.block.sound_kind.Reads as sound-kind-reads
-use Rattle.refs.proofs.place.block_in.Reads as block-in-reads
-use Rattle.refs.proofs.place.content_in.Reads as content-in-reads
-use Rattle.refs.proofs.place.region_in.Reads as region-in-reads
-use Rattle.refs.proofs.raw.says.Reads as says-reads
 use Rattle.refs.proofs.find.said_of.Goals as goal
 
 pub returns : goal.returns

@@ -1,8 +1,3 @@
-use Rattle.refs.proofs.find.try_directory.Reads as reads
-use Rattle.names.proofs.name.empty.Reads as empty-reads
-use Rattle.refs.proofs.find.filled_len.Reads as filled-len-reads
-use Rattle.refs.proofs.find.lookup_filled.Reads as lookup-filled-reads
-use Rattle.refs.proofs.find.put_candidate.Reads as put-candidate-reads
 use Rattle.refs.proofs.find.try_directory.Goals as goal
 
 pub returns : goal.returns

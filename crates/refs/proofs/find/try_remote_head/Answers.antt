@@ -2,13 +2,6 @@ use mathlib.Core.Path.{refl, sym, ◌∙◌}
 use Rattle.blocks.specs.Means.{if_there, snapshot_of}
 use Rattle.refs.proofs.Lookups.{same_place}
 use Rattle.refs.proofs.Searching.{last_none, last_one}
-use Rattle.refs.proofs.find.try_remote_head.Reads as reads
-use Rattle.names.proofs.bytes.equal.Reads as equal-reads
-use Rattle.names.proofs.name.empty.Reads as empty-reads
-use Rattle.names.proofs.name.remote_head_candidate.Reads as remote-head-candidate-reads
-use Rattle.refs.proofs.find.filled_len.Reads as filled-len-reads
-use Rattle.refs.proofs.find.lookup_filled.Reads as lookup-filled-reads
-use Rattle.refs.proofs.find.no_hit.Reads as no-hit-reads
 use Rattle.refs.proofs.find.try_remote_head.Goals as goal
 
 pub returns-then-equal : goal.returns-then-equal

@@ -1,12 +1,5 @@
 use Rattle.refs.specs.Means.{positions_of, place_name, place_content, block_reference}
 use Rattle.refs.proofs.ListSteps.{offer_answer, stepped}
-use Rattle.refs.proofs.overlay_iter.advance.Reads as reads
-use Rattle.blocks.proofs.fitness.or_empty.Reads as or-empty-reads
-use Rattle.blocks.proofs.fitness.size_check.Reads as size-check-reads
-use Rattle.refs.proofs.overlay_iter.ended_after.Reads as ended-after-reads
-use Rattle.refs.proofs.overlay_iter.listed_after.Reads as listed-after-reads
-use Rattle.refs.proofs.overlay_iter.move_of.Reads as move-of-reads
-use Rattle.refs.proofs.overlay_iter.said_of.Reads as said-of-reads
 use Rattle.refs.proofs.overlay_iter.advance.Goals as goal
 
 pub returns : goal.returns

@@ -1,5 +1,3 @@
-use Rattle.refs.proofs.overlay_iter.ended_after.Reads as reads
-use Rattle.refs.proofs.overlay_iter.is_end.Reads as is-end-reads
 use Rattle.refs.proofs.overlay_iter.ended_after.Goals as goal
 
 pub returns-in-Right : goal.returns-in-Right

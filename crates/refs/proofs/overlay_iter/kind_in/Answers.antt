@@ -1,8 +1,5 @@
 use mathlib.Core.Path.{sym}
 use Rattle.refs.proofs.ListSteps.{no_entry}
-use Rattle.refs.proofs.overlay_iter.kind_in.Reads as reads
-use Rattle.blocks.proofs.block.entry_kind.Reads as entry-kind-reads
-use Rattle.refs.proofs.place.part.Reads as part-reads
 use Rattle.refs.proofs.overlay_iter.kind_in.Goals as goal
 
 pub returns-in-Nowhere : goal.returns-in-Nowhere

@@ -1,3 +1,4 @@
+use mathlib.Core.Bool.{not}
 use mathlib.Core.Path.{ap}
 use Rattle.blocks.specs.Means.{region_of}
 use Rattle.refs.specs.ListPromises.{offer_of}
@@ -12,7 +13,7 @@ returns-then-not-is_name c e =
     let common = args.common.now in
     let packed = args.packed.now in
     let region = args.region in
-    least_none e (region_of region) (part_of worktree common packed (region_of region)) args.w _ c.is_name.ensures c.if-not-is_name.true
+    least_none e (region_of region) (part_of worktree common packed (region_of region)) args.w _ c.is_name.ensures (ap not c.if-not-is_name.true)
     (offer_of e worktree common packed args.offered)
 
 pub returns-then-is_not_above : goal.returns-then-is_not_above
@@ -24,7 +25,7 @@ returns-then-is_not_above c e =
     let region = args.region in
     least_first e (region_of region) (part_of worktree common packed (region_of region)) args.w _
     c.is_name.ensures
-    c.if-not-is_name.false (offer_of e worktree common packed args.offered) _
+    (ap not c.if-not-is_name.false) (offer_of e worktree common packed args.offered) _
     (ap (offer_of e worktree common packed) c.in-In.is) _
     (rw (c.compare.ensures, c.block_name-n.ensures, c.part.ensures, c.block_name-m.ensures, c.part-in-In.ensures) at c.is_not_above.ensures)
     c.if-is_not_above.true
@@ -37,7 +38,7 @@ returns-in-Nowhere c e =
     let packed = args.packed.now in
     let region = args.region in
     least_alone e (region_of region) (part_of worktree common packed (region_of region)) args.w _ c.is_name.ensures
-    c.if-not-is_name.false (offer_of e worktree common packed args.offered) (ap (offer_of e worktree common packed) c.in-Nowhere.is)
+    (ap not c.if-not-is_name.false) (offer_of e worktree common packed args.offered) (ap (offer_of e worktree common packed) c.in-Nowhere.is)
 
 pub returns-else-is_not_above : goal.returns-else-is_not_above
 returns-else-is_not_above c e =
@@ -48,7 +49,7 @@ returns-else-is_not_above c e =
     let region = args.region in
     least_second e (region_of region) (part_of worktree common packed (region_of region)) args.w _
     c.is_name.ensures
-    c.if-not-is_name.false (offer_of e worktree common packed args.offered) _
+    (ap not c.if-not-is_name.false) (offer_of e worktree common packed args.offered) _
     (ap (offer_of e worktree common packed) c.in-In.is) _
     (rw (c.compare.ensures, c.block_name-n.ensures, c.part.ensures, c.block_name-m.ensures, c.part-in-In.ensures) at c.is_not_above.ensures)
     c.if-is_not_above.false

@@ -1,9 +1,7 @@
-use Rattle.refs.proofs.overlay_iter.listed_after.Reads as reads
-use Rattle.refs.proofs.overlay_iter.listed_of.Reads as listed-of-reads
 use Rattle.refs.proofs.overlay_iter.listed_after.Goals as goal
 
 pub returns-in-Right : goal.returns-in-Right
-returns-in-Right c r = rw c.in-Right.is (c.Listed_of.ensures r)
+returns-in-Right c r = rw c.in-Right.is (c.listed_of.ensures r)
 
 pub returns-in-NotWhole : goal.returns-in-NotWhole
 returns-in-NotWhole c r = rw c.in-NotWhole.is

@@ -1,6 +1,3 @@
-use Rattle.refs.proofs.overlay_iter.move_in.Reads as reads
-use Rattle.refs.proofs.overlay_iter.choose.Reads as choose-reads
-use Rattle.refs.proofs.overlay_iter.peek.Reads as peek-reads
 use Rattle.refs.proofs.overlay_iter.move_in.Goals as goal
 
 pub returns : goal.returns

@@ -1,6 +1,3 @@
-use Rattle.refs.proofs.overlay_iter.move_of.Reads as reads
-use Rattle.refs.proofs.overlay_iter.move_in.Reads as move-in-reads
-use Rattle.refs.proofs.overlay_iter.stays.Reads as stays-reads
 use Rattle.refs.proofs.overlay_iter.move_of.Goals as goal
 
 pub returns-then-stays : goal.returns-then-stays

@@ -1,7 +1,6 @@
 use mathlib.Core.Path.{refl}
 use Rattle.blocks.specs.Means.{region_of}
 use Rattle.refs.proofs.ListWaits.{peek_found, peek_next, peek_none}
-use Prim.Native.Nat.{◌-◌}
 use native.Mathlib.Omega.{arith}
 use Rattle.refs.proofs.overlay_iter.peek.Goals as goal
 

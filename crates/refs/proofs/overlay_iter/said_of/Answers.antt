@@ -2,10 +2,6 @@ use mathlib.Core.Path.{refl, ap, ◌∙◌}
 use Rattle.refs.specs.Answer.{strip_answer}
 use Rattle.refs.specs.Means.{place_region, place_bytes, place_block, place_name}
 use Rattle.refs.proofs.ListSteps.{offer_says}
-use Rattle.refs.proofs.overlay_iter.said_of.Reads as reads
-use Rattle.refs.proofs.overlay_iter.kind_in.Reads as kind-in-reads
-use Rattle.refs.proofs.place.content_in.Reads as content-in-reads
-use Rattle.refs.proofs.raw.says.Reads as says-reads
 use Rattle.refs.proofs.overlay_iter.said_of.Goals as goal
 
 pub returns : goal.returns

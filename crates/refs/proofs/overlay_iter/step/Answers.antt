@@ -1,12 +1,5 @@
 use Rattle.refs.specs.Means.{place_bytes, place_block}
 use Rattle.blocks.proofs.Parts.{name_short, content_short}
-use Rattle.refs.proofs.overlay_iter.step.Reads as reads
-use Rattle.blocks.proofs.fitness.or_empty.Reads as or-empty-reads
-use Rattle.names.proofs.name.lend.Reads as lend-reads
-use Rattle.refs.proofs.overlay_iter.advance.Reads as advance-reads
-use Rattle.refs.proofs.place.content_in.Reads as content-in-reads
-use Rattle.refs.proofs.place.name_in.Reads as name-in-reads
-use Rattle.refs.proofs.raw.reference_with.Reads as reference-with-reads
 use Rattle.refs.proofs.overlay_iter.step.Goals as goal
 
 pub reference_with-reference-requires : goal.reference_with-reference-requires

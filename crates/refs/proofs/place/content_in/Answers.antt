@@ -1,6 +1,3 @@
-use Rattle.refs.proofs.place.content_in.Reads as reads
-use Rattle.blocks.proofs.block.block_content.Reads as block-content-reads
-use Rattle.blocks.proofs.block.content_of.Reads as content-of-reads
 use Rattle.refs.proofs.place.content_in.Goals as goal
 
 pub returns-in-Nowhere : goal.returns-in-Nowhere

@@ -1,5 +1,3 @@
-use Rattle.refs.proofs.place.region_in.Reads as reads
-use Rattle.refs.proofs.place.part.Reads as part-reads
 use Rattle.refs.proofs.place.region_in.Goals as goal
 
 pub returns-in-In : goal.returns-in-In

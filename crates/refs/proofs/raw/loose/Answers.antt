@@ -1,8 +1,4 @@
 use mathlib.Core.Path.{◌∙◌}
-use Rattle.refs.proofs.raw.loose.Reads as reads
-use Rattle.blocks.proofs.decode.target_kind.Reads as target-kind-reads
-use Rattle.refs.proofs.raw.reason_of.Reads as reason-of-reads
-use Rattle.refs.proofs.raw.refused.Reads as refused-reads
 use Rattle.refs.proofs.raw.loose.Goals as goal
 
 pub returns-in-Object : goal.returns-in-Object

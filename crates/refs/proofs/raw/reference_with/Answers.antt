@@ -1,13 +1,6 @@
 use Rattle.names.specs.Name.{longest}
 use Rattle.refs.proofs.Says.{filled_whole, strip_fits, target_short}
 use native.Mathlib.Omega.{arith}
-use Rattle.refs.proofs.raw.reference_with.Reads as reads
-use Rattle.blocks.proofs.parse.id_of.Reads as id-of-reads
-use Rattle.blocks.proofs.parse.second_id_of.Reads as second-id-of-reads
-use Rattle.names.proofs.bytes.without.Reads as without-reads
-use Rattle.names.proofs.name.empty.Reads as empty-reads
-use Rattle.names.proofs.name.fill.Reads as fill-reads
-use Rattle.refs.proofs.raw.target_part.Reads as target-part-reads
 use Rattle.refs.proofs.raw.reference_with.Goals as goal
 
 pub returns : goal.returns

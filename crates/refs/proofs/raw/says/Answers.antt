@@ -1,10 +1,5 @@
 use mathlib.Core.Path.{◌∙◌}
 use Rattle.refs.proofs.Says.{said, said_record, said_peeled}
-use Rattle.refs.proofs.raw.says.Reads as reads
-use Rattle.refs.proofs.raw.loose.Reads as loose-reads
-use Rattle.refs.proofs.raw.nothing.Reads as nothing-reads
-use Rattle.refs.proofs.raw.packed.Reads as packed-reads
-use Rattle.refs.proofs.raw.refused.Reads as refused-reads
 use Rattle.refs.proofs.raw.says.Goals as goal
 
 pub returns-in-End : goal.returns-in-End

@@ -1,5 +1,3 @@
-use Rattle.refs.proofs.raw.target_part.Reads as reads
-use Rattle.blocks.proofs.decode.target_name.Reads as target-name-reads
 use Rattle.refs.proofs.raw.target_part.Goals as goal
 
 pub returns-in-Object : goal.returns-in-Object

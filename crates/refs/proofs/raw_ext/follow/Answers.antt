@@ -5,12 +5,6 @@ use Rattle.blocks.specs.Means.{id_width, if_there, snapshot_of}
 use Rattle.refs.specs.Search.{call_check}
 use Rattle.refs.proofs.Checks.{gate_passes, fit_regions}
 use Rattle.refs.proofs.Calls.{followed_stops, followed_passes}
-use Rattle.refs.proofs.raw_ext.follow.Reads as reads
-use Rattle.names.proofs.name.lend.Reads as lend-reads
-use Rattle.refs.proofs.check.check_call.Reads as check-call-reads
-use Rattle.refs.proofs.check.is_passed.Reads as is-passed-reads
-use Rattle.refs.proofs.raw_ext.follow_to_object.Reads as follow-to-object-reads
-use Rattle.refs.proofs.raw_ext.no_trail.Reads as no-trail-reads
 use Rattle.refs.proofs.raw_ext.follow.Goals as goal
 
 pub returns-then-not-is_passed : goal.returns-then-not-is_passed

@@ -1,6 +1,5 @@
 use mathlib.Core.Path.{refl, sym, ◌∙◌}
 use mathlib.Core.List.{map}
-use Prim.Native.Nat.{◌-◌}
 use lib.ListN.{take, length-set}
 use Rattle.names.specs.Means.{content}
 use Rattle.blocks.specs.Means.{if_there, snapshot_of}

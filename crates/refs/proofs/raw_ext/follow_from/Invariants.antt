@@ -14,8 +14,8 @@ abbrev pub invariant-loop-n : goal.invariant-loop-n
 invariant-loop-n l =
     (l.n ≤ max_ref_depth)
     × (length l.seen ≡ max_ref_depth)
-    × (followed_from l.e (snapshot_of l.worktree (if_there has-common l.common) l.packed) (reference_of l.initial.last)
-    ≡ after_names l.e (snapshot_of l.worktree (if_there has-common l.common) l.packed) l.n (map content (take l.n l.seen)) (reference_of l.last))
+    × (followed_from l.e (snapshot_of l.worktree (if_there l.has_common l.common) l.packed) (reference_of l.initial.last)
+    ≡ after_names l.e (snapshot_of l.worktree (if_there l.has_common l.common) l.packed) l.n (map content (take l.n l.seen)) (reference_of l.last))
 
 abbrev pub decreases-loop-n : goal.decreases-loop-n
 decreases-loop-n l = max_ref_depth - l.n
