@@ -46,7 +46,7 @@ pub const RECORD: u8 = 4;
 pub const PACKED_ERROR: u8 = 5;
 
 // A region is worktree, common or packed.
-#[derive(Drop)]
+#[derive(Clone, Copy)]
 pub enum Region {
     Worktree,
     Common,

@@ -13,7 +13,7 @@ use crate::bytes::{equal, shorter, starts_with};
 // The longest name.
 pub const LONGEST: usize = 250;
 
-#[derive(Drop)]
+#[derive(Clone, Copy)]
 pub struct Name {
     pub bytes: [u8; LONGEST],
     pub len: usize,
@@ -31,14 +31,14 @@ pub struct Made {
 }
 
 // How many bytes were put in front of a name's bytes, or that they are more than a name holds.
-#[derive(Drop)]
+#[derive(Clone, Copy)]
 pub enum Filled {
     To(usize),
     TooLong,
 }
 
 // Why a name is refused: 3, 4 and 5 of document 01's table.
-#[derive(Drop)]
+#[derive(Clone, Copy)]
 pub enum Refusal {
     TooLong,
     Malformed,

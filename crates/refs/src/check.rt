@@ -33,7 +33,7 @@ pub struct CheckedNames {
 }
 
 // Whether a call goes on: turned away 1 to 5, or unfit 6 to 8 with region and block.
-#[derive(Drop)]
+#[derive(Clone, Copy)]
 pub enum Gate {
     Passed,
     NotWhole,

@@ -15,7 +15,7 @@ use blocks::parse::{Id, id_of, second_id_of};
 use names::bytes::without;
 use names::name::{Name, empty, fill};
 
-#[derive(Drop)]
+#[derive(Clone, Copy)]
 pub enum Kind {
     Object,
     Symbolic,
@@ -33,7 +33,7 @@ pub struct Reference {
 }
 
 // Why an entry is refused: 6 and 7, 9 to 12.
-#[derive(Drop)]
+#[derive(Clone, Copy)]
 pub enum Reason {
     Damaged,
     ErrorKind,
@@ -57,7 +57,7 @@ pub fn reason_number(why: Reason) -> u32
     }
 }
 
-#[derive(Drop)]
+#[derive(Clone, Copy)]
 pub enum Outcome {
     Nothing,
     Found,
