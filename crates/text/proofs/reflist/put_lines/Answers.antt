@@ -1,5 +1,4 @@
 use mathlib.Core.Path.{refl, ◌∙◌}
-use Prim.Native.Nat.{◌+◌, ◌-◌}
 use mathlib.Core.List.{◌++◌}
 use lib.ListN.{take}
 use Rattle.blocks.specs.Means.{if_there, snapshot_of}

@@ -14,13 +14,13 @@ pub returns-then-not-is_opened : goal.returns-then-not-is_opened
 returns-then-not-is_opened c =
     let args = c.args in
     let s = snapshot_of args.worktree.now (if_there args.has_common args.common.now) args.packed.now in
-    rw (not_opened_answers id_width s none (block_total s) c.«open».result c.«open».ensures (sym c.is_opened.ensures ∙ c.if-not-is_opened.true), none_listed) c.put_numbered.ensures.put
+    rw (not_opened_answers id_width s none (block_total s) c.open-o.result c.open-o.ensures (sym c.is_opened.ensures ∙ c.if-not-is_opened.true), none_listed) c.put_numbered.ensures.put
 
 pub put_lines-lines-requires : goal.put_lines-lines-requires
 put_lines-lines-requires c =
     let start = c in
     let all = total_is start.args.worktree.now start.args.common.now start.args.packed.now start.args.has_common c.or_empty-there.result.now c.or_empty-there.ensures in
-    (omega (arith, start.requires, all), omega (arith, start.requires, all))
+    record { steps_le_most_steps = omega (arith, start.requires, all); longest_line_in_bounds = omega (arith, start.requires, all) }
 
 pub put_numbered-requires-2 : goal.put_numbered-requires-2
 put_numbered-requires-2 c =
@@ -39,7 +39,7 @@ returns c =
     let or_empty = c.or_empty-there in
     let all = total_is args.worktree.now args.common.now args.packed.now args.has_common or_empty.result.now or_empty.ensures in
     rw (
-      opened_answers id_width s none (block_total s) c.«open».result c.«open».ensures (sym c.is_opened.ensures ∙ c.if-not-is_opened.false),
+      opened_answers id_width s none (block_total s) c.open-o.result c.open-o.ensures (sym c.is_opened.ensures ∙ c.if-not-is_opened.false),
       ← all,
     )
     (then_end args.out.now args.at _ _ _ lines.result.end lines.result.count _ _ lines.ensures (omega (arith, start.requires, all)) c.put_numbered-2.ensures.put)

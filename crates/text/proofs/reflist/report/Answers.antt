@@ -8,7 +8,7 @@ use Rattle.text.proofs.reflist.report.Goals as goal
 pub put_report-requires : goal.put_report-requires
 put_report-requires c =
     let args = c.args in
-    (few_blocks args.worktree.now args.common.now args.packed.now args.has_common c.or_empty-there.result.now c.or_empty-there.ensures (sym c.sizes_within-sizes.ensures ∙ ap sizes_check c.in-Right.is), search rules)
+    record { packed_bound = few_blocks args.worktree.now args.common.now args.packed.now args.has_common c.or_empty-there.result.now c.or_empty-there.ensures (sym c.sizes_within-sizes.ensures ∙ ap sizes_check c.in-Right.is); longest_report_in_bounds = search rules }
 
 pub returns-in-Right : goal.returns-in-Right
 unfolding report files_check

@@ -21,4 +21,4 @@ pub returns-in_default : goal.returns-in_default
 returns-in_default c =
     let start = c in
     let rest = c.in_default.in_default-own.rest in
-    rw (no_words start.args.number (λ h. start.requires.0 (omega (arith, h, rest.1, rest.0.1, rest.0.0.1)))) (put_nothing start.args.out.now start.args.at longest_words)
+    rw (no_words start.args.number (λ h. start.requires.not_below (omega (arith, h, rest.1, rest.0.1, rest.0.0.1)))) (put_nothing start.args.out.now start.args.at longest_words)

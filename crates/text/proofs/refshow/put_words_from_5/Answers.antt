@@ -23,4 +23,4 @@ pub put_words_from_9-requires : goal.put_words_from_9-requires
 put_words_from_9-requires c =
     let start = c in
     let rest = c.in_default.in_default-own.rest in
-    (λ h. start.requires.0 (omega (arith, h, rest.1, rest.0.1, rest.0.0.1, rest.0.0.0.1)), omega (arith, start.requires.1))
+    record { not_below = λ h. start.requires.not_below (omega (arith, h, rest.1, rest.0.1, rest.0.0.1, rest.0.0.0.1)); longest_words_in_bounds = omega (arith, start.requires.longest_words_in_bounds) }
