@@ -273,7 +273,7 @@ pub(crate) fn block_at(s: &[u8], k: usize) -> &[u8]
 }
 
 // What a block holds. Name and content stand beside it, as parts of the region.
-#[derive(Drop)]
+#[derive(Clone, Copy)]
 pub enum EntryKind {
     // past the region's last block
     End,

@@ -1,4 +1,6 @@
 // What Rust or C may call: every call answers a number, and what it finds it writes at fixed places of an output that is lent to it.
+#![tactic(auto)]
+
 pub mod layout;
 pub mod listing;
 pub mod report;

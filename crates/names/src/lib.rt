@@ -1,4 +1,6 @@
 // Names of references. The definitions are in specs/, their laws in proofs/.
+#![tactic(auto)]
+
 pub mod bytes;
 pub mod find;
 pub mod fullname;

@@ -20,11 +20,11 @@ pub struct Name {
 }
 
 // A name that may be the last part of a full one.
-#[derive(Drop)]
+#[derive(Clone, Copy)]
 pub struct PartialName(pub Name);
 
 // A name that was made; not ok where the bytes are more than a name holds.
-#[derive(Drop)]
+#[derive(Clone, Copy)]
 pub struct Made {
     pub ok: bool,
     pub name: Name,
@@ -56,14 +56,14 @@ pub fn refusal_number(why: Refusal) -> u32
     }
 }
 
-#[derive(Drop)]
+#[derive(Clone, Copy)]
 pub enum Verdict {
     Accepted,
     Refused(Refusal),
 }
 
 // A partial name that was checked; it counts where it is accepted.
-#[derive(Drop)]
+#[derive(Clone, Copy)]
 pub struct CheckedPartial {
     pub verdict: Verdict,
     pub name: PartialName,

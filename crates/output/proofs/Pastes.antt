@@ -45,6 +45,7 @@ pasted_over (x ∷ b) zero [] [] h = refl
 pasted_over (x ∷ b) zero (w ∷ z) [] h = refl
 pasted_over (x ∷ b) zero (w ∷ z) (y ∷ s) h = ap (λ (l : List ℕ). y ∷ l) (pasted_over b zero z s (omega (arith, h)))
 pasted_over (x ∷ b) (suc at) z s h = ap (λ (l : List ℕ). x ∷ l) (pasted_over b at z s h)
+pasted_over (x ∷ b) zero [] (y ∷ s) h = elim h [ ]
 
 -- what has room at the front stands there
 pub pasted_front : (b s : List ℕ) → length s ≤ length b → pasted b 0 s ≡ s ++ drop (length s) b
@@ -52,6 +53,7 @@ unfolding pasted
 pasted_front [] [] h = refl
 pasted_front (x ∷ b) [] h = refl
 pasted_front (x ∷ b) (y ∷ s) h = ap (λ (l : List ℕ). y ∷ l) (pasted_front b s (omega (arith, h)))
+pasted_front [] (y ∷ s) h = elim h [ ]
 
 -- of a piece at the front as many bytes stand there as have room
 pub pasted_taken : (b s : List ℕ) (k : ℕ) → k ≤ length b → k ≤ length s → take k (pasted b 0 s) ≡ take k s

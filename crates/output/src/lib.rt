@@ -1,4 +1,6 @@
 // Bytes written into a lent buffer.
+#![tactic(auto)]
+
 ghost use Rattle.std.specs.Prelude.{◌≡◌, ◌+◌, ◌-◌, ◌≤◌, ◌<◌, replicate};
 ghost use Rattle.output.specs.Pasted.{pasted};
 

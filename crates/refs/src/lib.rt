@@ -1,4 +1,6 @@
 // Search, following and listing. The definitions are in specs/, their laws in proofs/.
+#![tactic(auto)]
+
 pub mod check;
 pub mod find;
 pub mod overlay_iter;

@@ -61,7 +61,7 @@ pub fn is_opened(o: Opening) -> bool
 }
 
 // An opening; the state counts where the listing was opened.
-#[derive(Drop)]
+#[derive(Clone, Copy)]
 pub struct Opened {
     pub opening: Opening,
     pub state: Listing,
@@ -296,7 +296,7 @@ fn is_name(left: Left) -> bool
 }
 
 // The block that is handed out, if one is, and the positions after it.
-#[derive(Drop)]
+#[derive(Clone, Copy)]
 struct Move {
     given: Place,
     next: Positions,
@@ -569,7 +569,7 @@ fn ended_after(sizes: Sizes, ended: bool, outcome: Outcome) -> bool
 
 // A step by the block that it hands out, with the kind of target that this has and whether it has a peeled id, where the answer
 // is an entry; and where the listing is after it. So nothing is copied.
-#[derive(Drop)]
+#[derive(Clone, Copy)]
 pub struct Advanced {
     pub answer: Listed,
     pub given: Place,
@@ -612,7 +612,7 @@ pub fn advance<'a>(
 }
 
 // A step; the reference counts where the answer is an entry.
-#[derive(Drop)]
+#[derive(Clone, Copy)]
 pub struct Stepped {
     pub answer: Listed,
     pub reference: Reference,

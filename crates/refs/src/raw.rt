@@ -22,7 +22,7 @@ pub enum Kind {
 }
 
 // A reference: its name and its target, the id of an object or the name of another reference; and, from packed, the peeled id.
-#[derive(Drop)]
+#[derive(Clone, Copy)]
 pub struct Reference {
     pub name: Name,
     pub kind: Kind,
@@ -65,7 +65,7 @@ pub enum Outcome {
 }
 
 // An answer: the reference counts where one is found.
-#[derive(Drop)]
+#[derive(Clone, Copy)]
 pub struct Answered {
     pub outcome: Outcome,
     pub reference: Reference,
@@ -73,7 +73,7 @@ pub struct Answered {
 
 // What a block says of its reference, but for names and ids: the outcome, and where one is found its kind, whether it is a packed
 // record, which answers under its own name, and whether that has a peeled id.
-#[derive(Drop)]
+#[derive(Clone, Copy)]
 pub struct Said {
     pub outcome: Outcome,
     pub kind: Kind,

@@ -1,0 +1,13 @@
+-- The invariant: the buffer has i zeros pasted at `at`.
+use mathlib.Core.Path.{◌≡◌}
+use Prim.Native.Nat.{◌-◌, ◌≤◌}
+use lib.ListN.{length, replicate}
+use lib.Seq.{paste}
+use Rattle.output.proofs.clear.Given as goal
+
+-- The invariant: the buffer has i zeros pasted at `at`.
+abbrev pub invariant-loop-i : goal.invariant-loop-i
+invariant-loop-i l = (l.i ≤ l.n) × (length l.out ≡ length l.initial.out) × (l.out ≡ paste l.initial.out l.at (replicate l.length 0) l.i)
+
+abbrev pub decreases-loop-i : goal.decreases-loop-i
+decreases-loop-i l = l.n - l.i
