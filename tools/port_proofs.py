@@ -53,6 +53,15 @@ class Names:
         for place in d["places"]:
             if place[2] and place[2][0]:
                 self.fields[flat(place[2][0])] = place[2][1]
+        self.arms = {}
+        for arm in d["arms"]:
+            for new, old, way in arm[2] if arm else []:
+                if way:
+                    self.arms[(flat(old), *way)] = f"{arm[0]}.{new}"
+        asked = {b for _, b in d["asked_at"]}
+        self.own = {arm[0]: f[0] for arm in d["arms"] if arm for f in arm[2] if f[0].endswith("-own") and not f[2]}
+        self.told = {k[0] for k in self.arms}
+        self.places = {flat(p[0]): n if n in asked else re.sub(r"-\d+$", "", n) for p, n in zip(d["places"], d["places_by_name"])}
         for loop, _ in d["loops"]:
             self.fields[flat(loop[0])] = loop[1]
         self.loops = {flat(l[0][0]): (l[0][1], l[1], d["changed"][i] if i < len(d["changed"]) else []) for i, l in enumerate(d["loops"])}
@@ -69,16 +78,25 @@ HEADS = ("args", "ranges", "new", "old", "now", "result", "ensures", "requires",
 
 def paths(body, names, left):
     body = re.sub(r"(\.before)+\b", "", body)
+    # a short name of what a match learns goes, since its parts have names of their own
+    for m in re.finditer(rf"let ([\w₀-₉']+) = (c\.({NAME})) in\s*", body):
+        if flat(m[3]) in names.told:
+            body = re.sub(rf"(?<![\w.'-]){re.escape(m[1])}(?=\.)", m[2], body.replace(m[0], "", 1))
 
     def one(m):
-        field = m[2]
-        new = names.fields.get(flat(field))
-        if m[1] in HEADS or new is None:
-            return m[0]
-        return f"{m[1]}.{new}"
+        parts = m[2].split(".")[1:]
+        for k in range(len(parts), 0, -1):
+            key = (flat(parts[0]), *parts[1:k])
+            if key in names.arms:
+                return ".".join([m[1], names.arms[key], *parts[k:]])
+        new = names.fields.get(flat(parts[0])) or re.sub(r"(?<=\w)-(?=[a-z])", "_", parts[0])
+        return ".".join([m[1], new, *parts[1:]]) if m[1] == "c" or flat(parts[0]) in names.fields and m[1] not in HEADS else m[0]
 
-    body = re.sub(rf"(?<![\w.])([\w₀-₉']+)\.({NAME})", one, body)
-    return body
+    body = re.sub(rf"(?<![\w.'-])([\w₀-₉']+)((?:\.{NAME})+)", one, body)
+    body = re.sub(rf"\.(in_default[\w-]*)\.rest\b", lambda m: f".{m[1]}.{names.own.get(m[1], m[1] + '-own')}.rest", body)
+    deep = r"[^\s()]+|\((?:[^()]|\((?:[^()]|\([^()]*\))*\))*\)"
+    body = re.sub(rf"\(not-(?:true|false) (?:{deep}) (\(?[\w.'-]*\.if-not-[^\s,()]*\.(?:true|false))\)", r"\1", body)
+    return re.sub(rf"not-(?:true|false) (?:{deep}) (?=[\w.'-]*\.if-not-[^\s,()]*\.(?:true|false))", "", body)
 
 
 def convert(path, names, crate, where):
@@ -91,6 +109,7 @@ def convert(path, names, crate, where):
         else:
             break
     local = {}
+    whole = path.read_text()
     inv, ans, helpers, left = [], [], [], []
     for comment, sig, unfolding, clauses in decls:
         m = re.match(rf"((?:abbrev |unfoldable |pub )*)({NAME})\s*:\s*tie\.({NAME})(.*)", sig, re.S)
@@ -109,9 +128,9 @@ def convert(path, names, crate, where):
                 if i < len(params):
                     table[params[i]] = ("l.initial." if i < len(changed) and changed[i] else "l.") + v
             rest = [v for i, v in enumerate(live) if i < len(changed) and changed[i]]
-            for p, v in zip(params[len(live):], rest):
+            for p, v in zip(params[len(params) - len(rest):], rest):
                 table[p] = "l." + v
-            if len(params) != len(live) + len(rest):
+            if len(params) < len(live) + len(rest):
                 left.append(f"{m[3]}: {params} for {live} {changed}")
             rhs = re.sub(r"(?<![\w.'₀-₉-])([\w'₀-₉]+)(?![\w'₀-₉-])", lambda t: table.get(t[1], t[1]), rhs)
             inv.append((comment, f"abbrev pub {kind}-{new} : goal.{kind}-{new}", unfolding, f"{kind}-{new} l ={rhs}"))
@@ -121,7 +140,7 @@ def convert(path, names, crate, where):
             body = clauses[0] if clauses else ""
             lhs, _, rhs = body.partition("=")
             local[m[2]] = new
-            if rhs.strip() == "search rules":
+            if rhs.strip() == "search rules" and not re.search(rf"(?<![\w.'-]){re.escape(m[2])}(?![\w'-])", whole.split("tie.close")[0].replace(sig, "").replace(body, "")):
                 continue
             if new is None:
                 left.append(f"goal {m[2]} of {m[3]}")
@@ -131,8 +150,43 @@ def convert(path, names, crate, where):
         elif re.match(rf"pub {NAME} : .*statement", sig):
             continue
         else:
+            sig = re.sub(rf"tie\.({NAME})", lambda m: "goal." + names.places.get(flat(m[1]), m[1]), sig)
             helpers.append((comment, sig, unfolding, clauses))
-    return imports, head, inv, ans, helpers, left
+    def renamed(body):
+        for a, b in local.items():
+            if b and a != b and len(a) > 2:
+                body = re.sub(rf"(?<![\w.'-]){re.escape(a)}(?![\w'-])", b, body)
+        return body
+
+    ans = [(c, s, u, b[: b.index("=")] + renamed(b[b.index("=") :]), [renamed(x) for x in more]) for c, s, u, b, more in ans]
+    # A helper over the facts of a place is written out, since each place has facts of its own.
+    macros, others = {}, []
+    for h in helpers:
+        m = re.match(rf"({NAME}) : (?:{{[^}}]*}} )?\(c : (?:goal|tie)\.", h[1])
+        if m and len(h[3]) == 1 and re.match(rf"{re.escape(m[1])} c\s*=", h[3][0]):
+            macros[m[1]] = ("(" + re.sub(r"\s*\n\s*", " ", h[3][0].split("=", 1)[1].strip()) + ")", h[2].split()[1:])
+        else:
+            others.append(h)
+
+    def written(body, opened):
+        for _ in range(20):
+            before = body
+            for name, (text, opens) in macros.items():
+                new = re.sub(rf"\(?(?<![\w.'-]){re.escape(name)} (?:c(?:\.before)*(?![\w.]))\)?" if False else rf"(?<![\w.'-]){re.escape(name)} c(?:\.before)*(?![\w.])", lambda m: text, body)
+                if new != body:
+                    opened.update(opens)
+                    body = new
+            if body == before:
+                return body
+        return body
+
+    done = []
+    for c, s, u, b, more in ans:
+        opened = set()
+        b = written(b, opened)
+        names_open = list(dict.fromkeys(u.split()[1:] + sorted(opened)))
+        done.append((c, s, "unfolding " + " ".join(names_open) if names_open else "", b, more))
+    return imports, head, inv, done, others, left
 
 
 def show(it):
@@ -177,7 +231,7 @@ def main():
             (path.parent / "Invariants.antt").write_text("\n".join(used(invs) + [f"use Rattle.{crate}.proofs.{where}.Given as goal"]) + "\n\n" + "\n\n".join(show(i) for i in invs) + "\n")
         if ans or helpers:
             anss = [(c, s, u, paths(b, names, left), [paths(x, names, left) for x in more]) for c, s, u, b, more in ans]
-            hs = [("\n".join(c), s, u, "\n".join(cl)) for c, s, u, cl in helpers]
+            hs = [("\n".join(c), paths(s, names, left), u, paths("\n".join(cl), names, left)) for c, s, u, cl in helpers]
             htext = "\n\n".join("\n".join(x for x in h if x) for h in hs)
             use = used(anss + [([], htext, "", "")])
             (path.parent / "Answers.antt").write_text("\n".join(use + [f"use Rattle.{crate}.proofs.{where}.Goals as goal"]) + "\n\n" + (htext + "\n\n" if htext else "") + "\n\n".join(show(i) for i in anss) + "\n")
