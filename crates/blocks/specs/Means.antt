@@ -7,7 +7,7 @@ use Rattle.names.specs.Name.{longest, fits}
 use Rattle.names.specs.Means.{content}
 use Rattle.blocks.specs.Layout.{block_size, longest_content, sum_at}
 use Rattle.blocks.specs.Block.{Region, two_bytes, block_kind, name_length, content_length, block_name, block_content}
-use Rattle.blocks.specs.Content.{Target, object, symbolic, Reading, reads, unreadable, is_hex, lower_case, begins_hex}
+use Rattle.blocks.specs.Content.{object, symbolic, Reading, reads, unreadable, is_hex, lower_case, begins_hex}
 pub use Rattle.blocks.specs.Content.{target_name_in}
 use Rattle.blocks.specs.Entry.{Entry, damaged, failed, loose, unread, packed_record, entry_of, entries}
 use Rattle.blocks.specs.Fitness.{Flaw, flaw_or}

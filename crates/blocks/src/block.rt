@@ -46,7 +46,7 @@ pub const RECORD: u8 = 4;
 pub const PACKED_ERROR: u8 = 5;
 
 // A region is worktree, common or packed.
-#[derive(Drop)]
+#[derive(Clone, Copy)]
 pub enum Region {
     Worktree,
     Common,
@@ -273,7 +273,7 @@ pub(crate) fn block_at(s: &[u8], k: usize) -> &[u8]
 }
 
 // What a block holds. Name and content stand beside it, as parts of the region.
-#[derive(Drop)]
+#[derive(Clone, Copy)]
 pub enum EntryKind {
     // past the region's last block
     End,

@@ -13,7 +13,7 @@ use names::validate::complete;
 const REF_LENGTH: usize = 5;
 
 // Why a content is refused: 10, 11 and 12.
-#[derive(Drop)]
+#[derive(Clone, Copy)]
 pub enum Refusal {
     Unreadable,
     Incomplete,
@@ -31,7 +31,7 @@ pub fn refusal_number(why: Refusal) -> u32
     }
 }
 
-#[derive(Drop)]
+#[derive(Clone, Copy)]
 pub enum TargetKind {
     Object,
     Symbolic,
@@ -39,7 +39,7 @@ pub enum TargetKind {
 }
 
 // A target: its kind, and beside it the id, which counts for an object, and the name, which counts for a symbolic one.
-#[derive(Drop)]
+#[derive(Clone, Copy)]
 pub struct Target {
     pub kind: TargetKind,
     pub id: Id,
@@ -47,7 +47,7 @@ pub struct Target {
 }
 
 // How a content begins.
-#[derive(Drop)]
+#[derive(Clone, Copy)]
 enum State {
     Id,
     UnvalidatedPath,

@@ -14,7 +14,7 @@ use crate::block::{
 use names::bytes::{Order, compare};
 
 // Right, or refused 1 or 2.
-#[derive(Drop)]
+#[derive(Clone, Copy)]
 pub enum Sizes {
     Right,
     NotWhole,
@@ -72,7 +72,7 @@ pub fn size_check(worktree: &[u8], common: &[u8], has_common: bool, packed: &[u8
 }
 
 // Why a block is unfit: 6, 7 and 8.
-#[derive(Drop)]
+#[derive(Clone, Copy)]
 pub enum Reason {
     Damaged,
     ErrorKind,
@@ -91,7 +91,7 @@ pub fn reason_number(why: Reason) -> u32
 }
 
 // Whether regions are fit for search, or the first block that is not.
-#[derive(Drop)]
+#[derive(Clone, Copy)]
 pub enum Verdict {
     Fit,
     Unfit {

@@ -30,7 +30,7 @@ pub fn all_hex(s: &[u8]) -> bool
 }
 
 // An id, its digits in lower case.
-#[derive(Drop)]
+#[derive(Clone, Copy)]
 pub struct Id {
     pub digits: [u8; ID_WIDTH],
 }

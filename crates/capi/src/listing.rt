@@ -193,7 +193,7 @@ fn put_advanced<'a>(
 }
 
 // What a step leaves beside its report: its number, and the next state but for the expansion, which stays.
-#[derive(Drop)]
+#[derive(Clone, Copy)]
 struct Made {
     number: u32,
     next: Positions,

@@ -8,7 +8,7 @@ ghost use Rattle.names.specs.Name.{directory};
 ghost use Rattle.names.specs.Means.{ordering};
 ghost use Rattle.names.specs.Promises.{agree};
 
-#[derive(Drop)]
+#[derive(Clone, Copy)]
 pub enum Order {
     Less,
     Equal,

@@ -8,21 +8,21 @@ ghost use Rattle.names.specs.Means.{place_of, packed_of};
 use crate::fullname::{Category, Class, category_and_short_name, is_private};
 
 // The worktree's own region, or the one that worktrees share.
-#[derive(Drop)]
+#[derive(Clone, Copy)]
 pub enum Base {
     Own,
     Shared,
 }
 
 // The region in which a name is read, and where its path starts in the name.
-#[derive(Drop)]
+#[derive(Clone, Copy)]
 pub struct Routed {
     pub base: Base,
     pub off: usize,
 }
 
 // Where the packed name starts in the name, if it is sought packed.
-#[derive(Drop)]
+#[derive(Clone, Copy)]
 pub enum Packed {
     From(usize),
     Never,

@@ -13,7 +13,7 @@ use crate::name::{
 use crate::validate::complete;
 
 // The linked ones hold the length of their worktree's name, which stands behind worktrees/.
-#[derive(Drop)]
+#[derive(Clone, Copy)]
 pub enum Category {
     Tag,
     LocalBranch,
@@ -30,25 +30,25 @@ pub enum Category {
 }
 
 // A name's category, and how many bytes are taken off it to give the short name.
-#[derive(Drop)]
+#[derive(Clone, Copy)]
 pub enum Class {
     As { category: Category, off: usize },
     Unclassified,
 }
 
 // A complete name.
-#[derive(Drop)]
+#[derive(Clone, Copy)]
 pub struct FullName(pub Name);
 
 // A full name that was checked; it counts where it is accepted.
-#[derive(Drop)]
+#[derive(Clone, Copy)]
 pub struct CheckedFull {
     pub verdict: Verdict,
     pub name: FullName,
 }
 
 // Where a slash is.
-#[derive(Drop)]
+#[derive(Clone, Copy)]
 pub(crate) enum Slash {
     At(usize),
     Nowhere,

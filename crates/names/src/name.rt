@@ -13,32 +13,32 @@ use crate::bytes::{equal, shorter, starts_with};
 // The longest name.
 pub const LONGEST: usize = 250;
 
-#[derive(Drop)]
+#[derive(Clone, Copy)]
 pub struct Name {
     pub bytes: [u8; LONGEST],
     pub len: usize,
 }
 
 // A name that may be the last part of a full one.
-#[derive(Drop)]
+#[derive(Clone, Copy)]
 pub struct PartialName(pub Name);
 
 // A name that was made; not ok where the bytes are more than a name holds.
-#[derive(Drop)]
+#[derive(Clone, Copy)]
 pub struct Made {
     pub ok: bool,
     pub name: Name,
 }
 
 // How many bytes were put in front of a name's bytes, or that they are more than a name holds.
-#[derive(Drop)]
+#[derive(Clone, Copy)]
 pub enum Filled {
     To(usize),
     TooLong,
 }
 
 // Why a name is refused: 3, 4 and 5 of document 01's table.
-#[derive(Drop)]
+#[derive(Clone, Copy)]
 pub enum Refusal {
     TooLong,
     Malformed,
@@ -56,14 +56,14 @@ pub fn refusal_number(why: Refusal) -> u32
     }
 }
 
-#[derive(Drop)]
+#[derive(Clone, Copy)]
 pub enum Verdict {
     Accepted,
     Refused(Refusal),
 }
 
 // A partial name that was checked; it counts where it is accepted.
-#[derive(Drop)]
+#[derive(Clone, Copy)]
 pub struct CheckedPartial {
     pub verdict: Verdict,
     pub name: PartialName,

@@ -12,11 +12,11 @@ use crate::name::{Filled, LONGEST, Name, Refusal, Verdict, empty, put_behind};
 use crate::validate::well_formed;
 
 // The expansion of a namespace: what goes before every name in it.
-#[derive(Drop)]
+#[derive(Clone, Copy)]
 pub struct Namespace(pub Name);
 
 // A namespace that was checked; it counts where it is accepted.
-#[derive(Drop)]
+#[derive(Clone, Copy)]
 pub struct CheckedNamespace {
     pub verdict: Verdict,
     pub name: Namespace,

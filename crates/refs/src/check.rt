@@ -19,21 +19,21 @@ use names::namespace::expand;
 use names::validate::well_formed;
 
 // Why names are refused, or not: 3, 4 and 5.
-#[derive(Drop)]
+#[derive(Clone, Copy)]
 pub enum NamesGate {
     Passed,
     Refused(Refusal),
 }
 
 // Names that were checked: the namespace's expansion counts where they passed, empty where there is none.
-#[derive(Drop)]
+#[derive(Clone, Copy)]
 pub struct CheckedNames {
     pub gate: NamesGate,
     pub expansion: Name,
 }
 
 // Whether a call goes on: turned away 1 to 5, or unfit 6 to 8 with region and block.
-#[derive(Drop)]
+#[derive(Clone, Copy)]
 pub enum Gate {
     Passed,
     NotWhole,
@@ -47,7 +47,7 @@ pub enum Gate {
 }
 
 // A call that was checked: the namespace's expansion counts where it passed.
-#[derive(Drop)]
+#[derive(Clone, Copy)]
 pub struct CheckedCall {
     pub gate: Gate,
     pub expansion: Name,

@@ -23,7 +23,7 @@ use names::name::{
 };
 
 // The number of a block, if there is one.
-#[derive(Drop)]
+#[derive(Clone, Copy)]
 pub enum Index {
     At(usize),
     Nothing,
@@ -183,7 +183,7 @@ fn filled_len(f: Filled) -> usize
 }
 
 // A candidate and the block that it finds. An answer is too large to be handed on, so it is made of these, once, at the end.
-#[derive(Drop)]
+#[derive(Clone, Copy)]
 pub struct Hit {
     pub place: Place,
     pub name: Name,
@@ -368,7 +368,7 @@ pub(crate) fn reference_of<'a>(
 }
 
 // What a search gives: the answer counts where the call passed its checks.
-#[derive(Drop)]
+#[derive(Clone, Copy)]
 pub struct Found {
     pub gate: Gate,
     pub answer: Answered,

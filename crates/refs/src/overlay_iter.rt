@@ -25,7 +25,7 @@ use names::namespace::expand;
 use names::validate::well_formed;
 
 // Where the next block of each region is looked for.
-#[derive(Drop)]
+#[derive(Clone, Copy)]
 pub struct Positions {
     pub worktree: usize,
     pub common: usize,
@@ -33,7 +33,7 @@ pub struct Positions {
 }
 
 // The listing's state: positions, whether it is ended, and the namespace's expansion, empty where there is none.
-#[derive(Drop)]
+#[derive(Clone, Copy)]
 pub struct Listing {
     pub at: Positions,
     pub ended: bool,
@@ -41,7 +41,7 @@ pub struct Listing {
 }
 
 // Whether a listing was opened: refused 1 and 2 for the regions, 3 to 5 for the namespace.
-#[derive(Drop)]
+#[derive(Clone, Copy)]
 pub enum Opening {
     Opened,
     NotWhole,
@@ -61,7 +61,7 @@ pub fn is_opened(o: Opening) -> bool
 }
 
 // An opening; the state counts where the listing was opened.
-#[derive(Drop)]
+#[derive(Clone, Copy)]
 pub struct Opened {
     pub opening: Opening,
     pub state: Listing,
@@ -198,7 +198,7 @@ fn is_error(kind: EntryKind) -> bool
 }
 
 // Whether a block waits, and as what.
-#[derive(Drop)]
+#[derive(Clone, Copy)]
 enum Left {
     Nothing,
     Error,
@@ -206,7 +206,7 @@ enum Left {
 }
 
 // What waits in a region: block `at`, which is an error or bears a name, and the place behind it. Its name is not copied.
-#[derive(Drop)]
+#[derive(Clone, Copy)]
 struct Waiting {
     left: Left,
     at: usize,
@@ -296,7 +296,7 @@ fn is_name(left: Left) -> bool
 }
 
 // The block that is handed out, if one is, and the positions after it.
-#[derive(Drop)]
+#[derive(Clone, Copy)]
 struct Move {
     given: Place,
     next: Positions,
@@ -467,7 +467,7 @@ fn said_of<'a>(worktree: &'a [u8], common: &'a [u8], packed: &'a [u8], given: Pl
 }
 
 // What a step answers: refused 1 or 2, or an entry, refused 6 to 12, or the end.
-#[derive(Drop)]
+#[derive(Clone, Copy)]
 pub enum Listed {
     NotWhole,
     TooMany,
@@ -569,7 +569,7 @@ fn ended_after(sizes: Sizes, ended: bool, outcome: Outcome) -> bool
 
 // A step by the block that it hands out, with the kind of target that this has and whether it has a peeled id, where the answer
 // is an entry; and where the listing is after it. So nothing is copied.
-#[derive(Drop)]
+#[derive(Clone, Copy)]
 pub struct Advanced {
     pub answer: Listed,
     pub given: Place,
@@ -612,7 +612,7 @@ pub fn advance<'a>(
 }
 
 // A step; the reference counts where the answer is an entry.
-#[derive(Drop)]
+#[derive(Clone, Copy)]
 pub struct Stepped {
     pub answer: Listed,
     pub reference: Reference,

@@ -5,7 +5,7 @@ ghost use Rattle.refs.specs.Means.{RecordKind};
 
 use blocks::block::{EntryKind, Region, entry_kind};
 
-#[derive(Drop)]
+#[derive(Clone, Copy)]
 pub struct PackedReader<'a> {
     pub region: &'a [u8],
     pub at: usize,

@@ -6,7 +6,7 @@ ghost use Rattle.refs.specs.Means.{part_of, place_bytes, place_block, place_name
 use blocks::block::{Region, block_content, block_name, content_of};
 
 // A block of one of the three regions, or none.
-#[derive(Drop)]
+#[derive(Clone, Copy)]
 pub enum Place {
     Nowhere,
     In { region: Region, block: usize },

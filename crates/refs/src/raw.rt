@@ -15,14 +15,14 @@ use blocks::parse::{Id, id_of, second_id_of};
 use names::bytes::without;
 use names::name::{Name, empty, fill};
 
-#[derive(Drop)]
+#[derive(Clone, Copy)]
 pub enum Kind {
     Object,
     Symbolic,
 }
 
 // A reference: its name and its target, the id of an object or the name of another reference; and, from packed, the peeled id.
-#[derive(Drop)]
+#[derive(Clone, Copy)]
 pub struct Reference {
     pub name: Name,
     pub kind: Kind,
@@ -33,7 +33,7 @@ pub struct Reference {
 }
 
 // Why an entry is refused: 6 and 7, 9 to 12.
-#[derive(Drop)]
+#[derive(Clone, Copy)]
 pub enum Reason {
     Damaged,
     ErrorKind,
@@ -57,7 +57,7 @@ pub fn reason_number(why: Reason) -> u32
     }
 }
 
-#[derive(Drop)]
+#[derive(Clone, Copy)]
 pub enum Outcome {
     Nothing,
     Found,
@@ -65,7 +65,7 @@ pub enum Outcome {
 }
 
 // An answer: the reference counts where one is found.
-#[derive(Drop)]
+#[derive(Clone, Copy)]
 pub struct Answered {
     pub outcome: Outcome,
     pub reference: Reference,
@@ -73,7 +73,7 @@ pub struct Answered {
 
 // What a block says of its reference, but for names and ids: the outcome, and where one is found its kind, whether it is a packed
 // record, which answers under its own name, and whether that has a peeled id.
-#[derive(Drop)]
+#[derive(Clone, Copy)]
 pub struct Said {
     pub outcome: Outcome,
     pub kind: Kind,

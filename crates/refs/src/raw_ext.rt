@@ -15,7 +15,7 @@ use names::name::{Name, empty, lend, same_name};
 pub const MAX_REF_DEPTH: usize = 5;
 
 // Why following stops: 13, 14 and 15.
-#[derive(Drop)]
+#[derive(Clone, Copy)]
 pub enum Stop {
     NotFound,
     Cycle,
@@ -34,7 +34,7 @@ pub fn stop_number(why: Stop) -> u32
 }
 
 // How following ends: the reference beside it is the last one reached, and holds the id where it is reached.
-#[derive(Drop)]
+#[derive(Clone, Copy)]
 pub enum Ending {
     NotThere,
     Reached,
@@ -42,7 +42,7 @@ pub enum Ending {
     Refused(Reason),
 }
 
-#[derive(Drop)]
+#[derive(Clone, Copy)]
 pub struct Trail {
     pub ending: Ending,
     pub reference: Reference,
@@ -177,7 +177,7 @@ fn follow_to_object<'a>(
 }
 
 // What following gives: the trail counts where the call passed its checks.
-#[derive(Drop)]
+#[derive(Clone, Copy)]
 pub struct Followed {
     pub gate: Gate,
     pub trail: Trail,
