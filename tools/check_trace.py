@@ -107,6 +107,11 @@ def reached(roots):
 def unfolded_above(crate):
     """The proofs of other crates that unfold a definition of this one, and those outside COMPUTING that compute."""
     owned = {name for file in (crates / crate / "specs").glob("*.antt") for name in re.findall(r"^\s*unfoldable (?:pub )?(\S+)", file.read_text(), re.M)}
+    for file in sorted(crates.glob("*/src/**/*.rt")):
+        for names in re.findall(r"\bunfolding\(([^)]*)\)", file.read_text()):
+            for name in re.findall(rf"\b{crate}::specs::\w+::(\w+)", names):
+                if name in owned and file.relative_to(crates).parts[0] != crate:
+                    yield f"{file.relative_to(root)} unfolds {name} of {crate}"
     for file in sorted(crates.glob("*/proofs/**/*.antt")):
         text = file.read_text()
         parts = file.relative_to(crates).with_suffix("").parts
