@@ -7,6 +7,11 @@ want = {}
 for m in re.finditer(r"^(\./\S+\.antt):(\d+):\d+: error: `([^`]+)`: write the clauses? (.*?)$", log, re.M):
     for cl in re.findall(r"`([^`]+)`", m[4]):
         want.setdefault(m[1], []).append((int(m[2]), m[3], cl))
+# several clauses stand below the message, a line each
+for m in re.finditer(r"^(\./\S+\.antt):(\d+):\d+: error: `([^`]+)`: write the clauses\n((?:  .*\n)+)", log, re.M):
+    for l in m[4].split("\n"):
+        if l.startswith(f"  {m[3]} ") and "=" in l:
+            want.setdefault(m[1], []).append((int(m[2]), m[3], l.strip()))
 n = 0
 for file, items in want.items():
     path = crate / file

@@ -93,7 +93,9 @@ def paths(body, names, left):
         return ".".join([m[1], new, *parts[1:]]) if m[1] == "c" or flat(parts[0]) in names.fields and m[1] not in HEADS else m[0]
 
     body = re.sub(rf"(?<![\w.'-])([\w₀-₉']+)((?:\.{NAME})+)", one, body)
+    body = re.sub(rf"(?<=args\.){NAME}", lambda m: m[0].replace("-", "_"), body)
     body = re.sub(rf"\.(in_default[\w-]*)\.rest\b", lambda m: f".{m[1]}.{names.own.get(m[1], m[1] + '-own')}.rest", body)
+    body = re.sub(r"(\.if-[^\s,().]*)\.(taken|left)\b", lambda m: m[1] + (".true" if m[2] == "taken" else ".false"), body)
     deep = r"[^\s()]+|\((?:[^()]|\((?:[^()]|\([^()]*\))*\))*\)"
     body = re.sub(rf"\(not-(?:true|false) (?:{deep}) (\(?[\w.'-]*\.if-not-[^\s,()]*\.(?:true|false))\)", r"\1", body)
     return re.sub(rf"not-(?:true|false) (?:{deep}) (?=[\w.'-]*\.if-not-[^\s,()]*\.(?:true|false))", "", body)
@@ -132,7 +134,7 @@ def convert(path, names, crate, where):
                 table[p] = "l." + v
             if len(params) < len(live) + len(rest):
                 left.append(f"{m[3]}: {params} for {live} {changed}")
-            rhs = re.sub(r"(?<![\w.'₀-₉-])([\w'₀-₉]+)(?![\w'₀-₉-])", lambda t: table.get(t[1], t[1]), rhs)
+            rhs = re.sub(r"(?<![\w.'₀-₉-])([\w'₀-₉-]+)(?![\w'₀-₉-])", lambda t: table.get(t[1], t[1]), rhs)
             inv.append((comment, f"abbrev pub {kind}-{new} : goal.{kind}-{new}", unfolding, f"{kind}-{new} l ={rhs}"))
             local[m[2]] = f"{kind}-{new}"
         elif m and m[3].startswith("Need-"):

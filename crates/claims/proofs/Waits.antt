@@ -89,6 +89,7 @@ module _ (Shown : Bytes → Bytes → Type 0) where
             → Waits (region see (e ∷ l)) (λ j. region see (drop j r)) (first_seen k (suc i) (first_waiting see l (suc i)))
         go passed_over k unseen ih = subst (λ (t : Table). Waits t (λ j. region see (drop j r)) (first_waiting see l (suc i))) (fun_ext (skip e l x n s k)) ih
         go (shown z a) k (offered m) ih = waits {j = suc i} (start e l x a n s k m) (λ y. rw (drop_tail i r d) (after e l x n s y))
+        go (fault _) k x7 ih = elim x7 [ ]
 
     pub peek_waits : Sorted none r → (i : ℕ) → Waits (region see (drop i r)) (λ j. region see (drop j r)) (peek see r i)
     peek_waits h i = first_waits (sorted_drop i h) i refl

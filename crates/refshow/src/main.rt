@@ -1,38 +1,70 @@
 // refshow NAME [NAMESPACE]: which commit does this reference name, in the snapshot of the folder that it is run in?
 // What it writes is `text::refshow`'s, proved equal to its definition.
-use files::{is_failed, is_missing, load, size};
+#![tactic(auto)]
+
+use files::{is_failed, is_missing, load, size, tell};
 use names::name::lend;
+use std::env::FillError;
+use std::rt::{Env, Files};
 use text::refshow::{SHOW_SIZE, show, size_show};
 
 // 40 blocks, as for reflist.
 const FILE_SIZE: usize = 20480;
 
-fn write_out(out: &[u8; SHOW_SIZE], n: usize) {
-    let written = io::write_all(libc::STDOUT_FILENO, lend(out, n));
-    if !written {
-        os::fail(b"standard output");
+// The longest argument that is read; a longer one counts as empty.
+const LONGEST_ARGUMENT: usize = 4096;
+
+fn write_out(rt: &(impl Print + Eprint), out: &[u8; SHOW_SIZE], n: usize) {
+    if let Err(why) = rt.write_all(lend(out, n)) {
+        tell(rt, "standard output", &why);
     }
 }
 
-fn usage() {
-    io::write_all(libc::STDERR_FILENO, b"usage: refshow NAME [NAMESPACE]\n");
+fn usage(rt: &impl Eprint) {
+    let _ = eprintln!(rt; "usage: refshow NAME [NAMESPACE]");
+}
+
+// Whether the program was given that argument, which is put at the start of `buf`, and how long it is.
+#[derive(Clone, Copy)]
+struct Argument {
+    there: bool,
+    len: usize,
+}
+
+fn read_argument(rt: &impl Env, i: usize, buf: &mut [u8; LONGEST_ARGUMENT]) -> Argument {
+    match rt.arg(i, buf) {
+        Ok(len) => Argument { there: true, len },
+        Err(FillError::TooLong) => Argument {
+            there: true,
+            len: 0,
+        },
+        Err(FillError::NotPresent) => Argument {
+            there: false,
+            len: 0,
+        },
+    }
 }
 
 // Over the three files.
-fn show_name(name: &[u8], namespace: &[u8], has_namespace: bool) {
+fn show_name(
+    rt: &(impl Files + Print + Eprint),
+    name: &[u8],
+    namespace: &[u8],
+    has_namespace: bool,
+) {
     let mut worktree = [0u8; FILE_SIZE];
     let mut common = [0u8; FILE_SIZE];
     let mut packed = [0u8; FILE_SIZE];
-    let w = load(b"worktree.blk", &mut worktree);
-    let c = load(b"common.blk", &mut common);
-    let p = load(b"packed.blk", &mut packed);
+    let w = load(rt, b"worktree.blk", &mut worktree);
+    let c = load(rt, b"common.blk", &mut common);
+    let p = load(rt, b"packed.blk", &mut packed);
     if is_failed(w) || is_failed(c) || is_failed(p) {
         return;
     }
     let mut out = [0u8; SHOW_SIZE];
     let refused = size_show(size(w), size(c), size(p), &mut out);
     if refused > 0 {
-        write_out(&out, refused);
+        write_out(rt, &out, refused);
         return;
     }
     let n = show(
@@ -45,18 +77,24 @@ fn show_name(name: &[u8], namespace: &[u8], has_namespace: bool) {
         has_namespace,
         &mut out,
     );
-    write_out(&out, n);
+    write_out(rt, &out, n);
 }
 
-fn main() {
-    let count = os::arg_count();
-    if count < 2 || count > 3 {
-        usage();
+fn main(rt: HostRuntime) {
+    let mut name = [0u8; LONGEST_ARGUMENT];
+    let mut namespace = [0u8; LONGEST_ARGUMENT];
+    let mut more = [0u8; LONGEST_ARGUMENT];
+    let first = read_argument(&rt, 1, &mut name);
+    let second = read_argument(&rt, 2, &mut namespace);
+    let third = read_argument(&rt, 3, &mut more);
+    if !first.there || third.there {
+        usage(&rt);
         return;
     }
-    let mut name = io::buffer();
-    let n = os::arg(1, &mut name);
-    let mut namespace = io::buffer();
-    let m = os::arg(2, &mut namespace);
-    show_name(&name[..n], &namespace[..m], count == 3);
+    show_name(
+        &rt,
+        lend(&name, first.len),
+        lend(&namespace, second.len),
+        second.there,
+    );
 }

@@ -5,7 +5,7 @@ use crate::input::{
     second_field, third_field,
 };
 use crate::listing::{ask_listing, ask_step};
-use crate::output::{ROOM, put_unknown};
+use crate::output::{Pending, put_unknown};
 use crate::search::{ask_fitness, ask_following, ask_search};
 use crate::set::Kept;
 use crate::text::{ask_full_name, ask_of_one, ask_of_two};
@@ -22,7 +22,7 @@ fn ask_list<'a>(
     common: &'a [u8],
     packed: &'a [u8],
     namespace: &[u8],
-    out: &mut [u8; ROOM],
+    out: &mut Pending<'_, impl Print>,
     n: usize,
 ) -> usize {
     let count = read_number(second_field(line));
@@ -42,7 +42,7 @@ fn ask_bytes<'a>(
     packed: &'a [u8],
     namespace: &[u8],
     first: &mut [u8; MOST],
-    out: &mut [u8; ROOM],
+    out: &mut Pending<'_, impl Print>,
     n: usize,
 ) -> usize {
     let word = first_field(line);
@@ -61,7 +61,12 @@ fn ask_bytes<'a>(
 }
 
 // block loose|packed HEX.
-fn ask_of_block(line: &[u8], first: &mut [u8; MOST], out: &mut [u8; ROOM], n: usize) -> usize {
+fn ask_of_block(
+    line: &[u8],
+    first: &mut [u8; MOST],
+    out: &mut Pending<'_, impl Print>,
+    n: usize,
+) -> usize {
     let region = second_field(line);
     let given = read_bytes(third_field(line), first);
     if !given.ok {
@@ -82,7 +87,7 @@ fn ask_pair(
     line: &[u8],
     first: &mut [u8; MOST],
     second: &mut [u8; MOST],
-    out: &mut [u8; ROOM],
+    out: &mut Pending<'_, impl Print>,
     n: usize,
 ) -> usize {
     let a = read_bytes(second_field(line), first);
@@ -100,7 +105,7 @@ fn ask_full(
     line: &[u8],
     first: &mut [u8; MOST],
     second: &mut [u8; MOST],
-    out: &mut [u8; ROOM],
+    out: &mut Pending<'_, impl Print>,
     n: usize,
 ) -> usize {
     let category = second_field(line);
@@ -122,7 +127,7 @@ fn ask_stepping<'a>(
     common: &'a [u8],
     packed: &'a [u8],
     namespace: &[u8],
-    out: &mut [u8; ROOM],
+    out: &mut Pending<'_, impl Print>,
     n: usize,
 ) -> usize {
     let w = read_number(second_field(line));
@@ -149,7 +154,7 @@ pub(crate) fn ask<'a>(
     namespace: &[u8],
     a: &mut [u8; MOST],
     b: &mut [u8; MOST],
-    out: &mut [u8; ROOM],
+    out: &mut Pending<'_, impl Print>,
     n: usize,
 ) -> usize {
     let count = count_fields(line);

@@ -1,28 +1,33 @@
 // What a block holds.
-use crate::output::{ROOM, put, put_bytes, put_id, put_peeled, put_unknown};
+use crate::output::{Pending, put, put_bytes, put_id, put_peeled, put_unknown};
 use blocks::block::{BLOCK_SIZE, EntryKind, Region, block_content, block_name, entry_kind};
 use blocks::parse::{id_of, second_id_of};
 
 // The record of a packed block: its name, its id and its peeled id.
-fn put_record(s: &[u8], has_peeled: bool, out: &mut [u8; ROOM], n: usize) -> usize {
+fn put_record(s: &[u8], has_peeled: bool, out: &mut Pending<'_, impl Print>, n: usize) -> usize {
     let word_end = put(out, n, b"packed");
     let name_end = put_bytes(out, word_end, block_name(s, 0));
     let id_end = put_id(out, name_end, id_of(block_content(s, 0)));
     put_peeled(out, id_end, has_peeled, second_id_of(block_content(s, 0)))
 }
 
-fn put_loose(s: &[u8], out: &mut [u8; ROOM], n: usize) -> usize {
+fn put_loose(s: &[u8], out: &mut Pending<'_, impl Print>, n: usize) -> usize {
     let word_end = put(out, n, b"loose");
     let name_end = put_bytes(out, word_end, block_name(s, 0));
     put_bytes(out, name_end, block_content(s, 0))
 }
 
-fn put_unread(s: &[u8], out: &mut [u8; ROOM], n: usize) -> usize {
+fn put_unread(s: &[u8], out: &mut Pending<'_, impl Print>, n: usize) -> usize {
     let word_end = put(out, n, b"unreadable");
     put_bytes(out, word_end, block_name(s, 0))
 }
 
-pub(crate) fn ask_block(s: &[u8], region: Region, out: &mut [u8; ROOM], n: usize) -> usize {
+pub(crate) fn ask_block(
+    s: &[u8],
+    region: Region,
+    out: &mut Pending<'_, impl Print>,
+    n: usize,
+) -> usize {
     if s.len() != BLOCK_SIZE {
         return put_unknown(out, n);
     }

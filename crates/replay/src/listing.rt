@@ -1,5 +1,5 @@
 // The listing.
-use crate::output::{ROOM, put, put_number, put_refused, put_refused_line};
+use crate::output::{Pending, put, put_number, put_refused, put_refused_line};
 use crate::search::put_reference;
 use crate::set::Kept;
 use names::name::{Name, Verdict, empty, refusal_number};
@@ -7,7 +7,7 @@ use names::namespace::expand;
 use refs::overlay_iter::{Listed, Listing, Opening, Positions, is_opened, open, step};
 use refs::raw::{Reference, reason_number};
 
-fn put_positions(out: &mut [u8; ROOM], n: usize, state: Listing) -> usize {
+fn put_positions(out: &mut Pending<'_, impl Print>, n: usize, state: Listing) -> usize {
     let word_end = put(out, n, b" at");
     let worktree_end = put_number(out, word_end, state.at.worktree);
     let common_end = put_number(out, worktree_end, state.at.common);
@@ -15,7 +15,7 @@ fn put_positions(out: &mut [u8; ROOM], n: usize, state: Listing) -> usize {
     put(out, packed_end, b"\n")
 }
 
-fn put_listed(out: &mut [u8; ROOM], n: usize, answer: Listed, r: Reference) -> usize {
+fn put_listed(out: &mut Pending<'_, impl Print>, n: usize, answer: Listed, r: Reference) -> usize {
     match answer {
         Listed::NotWhole => put_refused(out, n, 1),
         Listed::TooMany => put_refused(out, n, 2),
@@ -38,7 +38,7 @@ fn put_step<'a>(
     common: &'a [u8],
     packed: &'a [u8],
     state: Listing,
-    out: &mut [u8; ROOM],
+    out: &mut Pending<'_, impl Print>,
     n: usize,
 ) -> Moved {
     let s = step(state, worktree, common, kept.has_common, packed);
@@ -60,7 +60,7 @@ fn put_steps<'a>(
     packed: &'a [u8],
     state: Listing,
     count: usize,
-    out: &mut [u8; ROOM],
+    out: &mut Pending<'_, impl Print>,
     n: usize,
 ) -> usize {
     let mut at = state;
@@ -76,7 +76,7 @@ fn put_steps<'a>(
 }
 
 // A refused opening; nothing where it is opened.
-fn put_opening(out: &mut [u8; ROOM], n: usize, opening: Opening) -> usize {
+fn put_opening(out: &mut Pending<'_, impl Print>, n: usize, opening: Opening) -> usize {
     match opening {
         Opening::Opened => n,
         Opening::NotWhole => put_refused_line(out, n, 1),
@@ -93,7 +93,7 @@ pub(crate) fn ask_listing<'a>(
     packed: &'a [u8],
     namespace: &[u8],
     count: usize,
-    out: &mut [u8; ROOM],
+    out: &mut Pending<'_, impl Print>,
     n: usize,
 ) -> usize {
     let o = open(
@@ -151,7 +151,7 @@ pub(crate) fn ask_step<'a>(
     packed: &'a [u8],
     namespace: &[u8],
     at: Positions,
-    out: &mut [u8; ROOM],
+    out: &mut Pending<'_, impl Print>,
     n: usize,
 ) -> usize {
     let scope = scope_of(namespace, kept.has_namespace);

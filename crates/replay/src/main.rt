@@ -1,5 +1,7 @@
 // Answers the lines of standard input on standard output, in the vector format. No answer is worked out here: each is what a
 // function of names, blocks or refs gives.
+#![tactic(auto)]
+
 mod ask;
 mod block;
 mod input;
@@ -11,9 +13,10 @@ mod text;
 
 use crate::ask::ask;
 use crate::input::{MOST, find_byte};
-use crate::output::{ROOM, flush, put_unknown};
+use crate::output::{Pending, flush, pending_for, put_unknown};
 use crate::set::{Kept, nothing_set, set};
 use names::name::lend;
+use std::io;
 
 // How much is read at once.
 const CHUNK: usize = 65536;
@@ -22,7 +25,7 @@ const CHUNK: usize = 65536;
 const LONGEST_LINE: usize = 131072;
 
 // What is set; how long the line is so far, LONGEST_LINE + 1 standing for every length above; how much of the output waits.
-#[derive(Drop)]
+#[derive(Clone, Copy)]
 struct State {
     kept: Kept,
     len: usize,
@@ -52,7 +55,7 @@ fn answer(
     namespace: &mut [u8; MOST],
     first: &mut [u8; MOST],
     second: &mut [u8; MOST],
-    out: &mut [u8; ROOM],
+    out: &mut Pending<'_, impl Print>,
 ) -> State {
     let kept = s.kept;
     let n = s.n;
@@ -110,7 +113,7 @@ fn feed(
     namespace: &mut [u8; MOST],
     first: &mut [u8; MOST],
     second: &mut [u8; MOST],
-    out: &mut [u8; ROOM],
+    out: &mut Pending<'_, impl Print>,
 ) -> State {
     let mut at = s;
     let mut i: usize = 0;
@@ -135,11 +138,11 @@ struct Read {
     len: usize,
 }
 
-// Where nothing came, a line end stands for the end of the input: the last line may have none.
-fn read_some(input: &mut [u8; CHUNK]) -> Read {
-    let got = libc::read(0, input);
-    let len = io::count(got, input);
-    if len > 0 {
+// Where nothing came, or the read failed, a line end stands for the end of the input: the last line may have none.
+fn read_some(from: &mut impl io::Read, input: &mut [u8; CHUNK]) -> Read {
+    if let Ok(len) = from.read(input)
+        && len > 0
+    {
         return Read { more: true, len };
     }
     input[0] = b'\n';
@@ -158,6 +161,7 @@ struct Turn {
 
 // What was answered is written before more is read, since whoever asks may wait for it.
 fn read_and_answer(
+    from: &mut impl io::Read,
     input: &mut [u8; CHUNK],
     line: &mut [u8; LONGEST_LINE],
     s: State,
@@ -167,11 +171,11 @@ fn read_and_answer(
     namespace: &mut [u8; MOST],
     first: &mut [u8; MOST],
     second: &mut [u8; MOST],
-    out: &mut [u8; ROOM],
+    out: &mut Pending<'_, impl Print>,
 ) -> Turn {
     let mut written = s;
     written.n = flush(out, s.n);
-    let read = read_some(input);
+    let read = read_some(from, input);
     let state = feed(
         lend(input, read.len),
         line,
@@ -190,8 +194,9 @@ fn read_and_answer(
     }
 }
 
-// Nothing says that the input ends, so the reads are counted down, from a number that no run uses up.
-fn main() {
+// Nothing says that the input ends, so the reads are counted, up to a number that no run reaches.
+fn main(rt: HostRuntime) {
+    let mut from = rt.stdin();
     let mut input = [0u8; CHUNK];
     let mut line = [0u8; LONGEST_LINE];
     let mut worktree = [0u8; MOST];
@@ -200,12 +205,12 @@ fn main() {
     let mut namespace = [0u8; MOST];
     let mut first = [0u8; MOST];
     let mut second = [0u8; MOST];
-    let mut out = [0u8; ROOM];
+    let mut out = pending_for(&rt);
     let kept = nothing_set();
     let mut s = at_line_start(kept, 0);
-    let mut left = u64::MAX;
-    while left > 0 {
+    for _ in 0..u64::MAX {
         let t = read_and_answer(
+            &mut from,
             &mut input,
             &mut line,
             s,
@@ -221,7 +226,6 @@ fn main() {
         if !t.more {
             break;
         }
-        left -= 1;
     }
     flush(&out, s.n);
 }

@@ -1,6 +1,6 @@
 // Whether the snapshot is fit for search, search and following.
 use crate::output::{
-    ROOM, put, put_id, put_line, put_name, put_number, put_peeled, put_refused, put_refused_line,
+    Pending, put, put_id, put_line, put_name, put_number, put_peeled, put_refused, put_refused_line,
 };
 use crate::set::Kept;
 use blocks::block::Region;
@@ -11,7 +11,7 @@ use refs::find::find;
 use refs::raw::{Answered, Kind, Outcome, Reference, reason_number};
 use refs::raw_ext::{Ending, Trail, follow, stop_number};
 
-fn put_region(out: &mut [u8; ROOM], n: usize, region: Region) -> usize {
+fn put_region(out: &mut Pending<'_, impl Print>, n: usize, region: Region) -> usize {
     match region {
         Region::Worktree => put(out, n, b" worktree"),
         Region::Common => put(out, n, b" common"),
@@ -20,7 +20,7 @@ fn put_region(out: &mut [u8; ROOM], n: usize, region: Region) -> usize {
 }
 
 fn put_unfit(
-    out: &mut [u8; ROOM],
+    out: &mut Pending<'_, impl Print>,
     n: usize,
     reason: Reason,
     region: Region,
@@ -31,7 +31,7 @@ fn put_unfit(
     put_number(out, region_end, block)
 }
 
-fn put_fitness(out: &mut [u8; ROOM], n: usize, v: Verdict) -> usize {
+fn put_fitness(out: &mut Pending<'_, impl Print>, n: usize, v: Verdict) -> usize {
     match v {
         Verdict::Fit => put_line(out, n, b"fit"),
         Verdict::Unfit {
@@ -50,7 +50,7 @@ pub(crate) fn ask_fitness(
     worktree: &[u8],
     common: &[u8],
     packed: &[u8],
-    out: &mut [u8; ROOM],
+    out: &mut Pending<'_, impl Print>,
     n: usize,
 ) -> usize {
     let has_common = kept.has_common;
@@ -63,7 +63,12 @@ pub(crate) fn ask_fitness(
 }
 
 // A reference behind a word: its name, its target and its peeled id.
-pub(crate) fn put_reference(out: &mut [u8; ROOM], n: usize, word: &[u8], r: Reference) -> usize {
+pub(crate) fn put_reference(
+    out: &mut Pending<'_, impl Print>,
+    n: usize,
+    word: &[u8],
+    r: Reference,
+) -> usize {
     let name = r.name;
     let kind = r.kind;
     let word_end = put(out, n, word);
@@ -86,7 +91,7 @@ pub(crate) fn put_reference(out: &mut [u8; ROOM], n: usize, word: &[u8], r: Refe
 }
 
 // A refusal of rows 1 to 8; nothing where the call passed them.
-fn put_gate(out: &mut [u8; ROOM], n: usize, gate: Gate) -> usize {
+fn put_gate(out: &mut Pending<'_, impl Print>, n: usize, gate: Gate) -> usize {
     match gate {
         Gate::Passed => n,
         Gate::NotWhole => put_refused(out, n, 1),
@@ -114,7 +119,7 @@ fn is_passed(gate: Gate) -> bool {
     }
 }
 
-fn put_answer(out: &mut [u8; ROOM], n: usize, a: Answered) -> usize {
+fn put_answer(out: &mut Pending<'_, impl Print>, n: usize, a: Answered) -> usize {
     let outcome = a.outcome;
     let reference = a.reference;
     match outcome {
@@ -131,7 +136,7 @@ pub(crate) fn ask_search<'a>(
     packed: &'a [u8],
     namespace: &[u8],
     x: &[u8],
-    out: &mut [u8; ROOM],
+    out: &mut Pending<'_, impl Print>,
     n: usize,
 ) -> usize {
     let f = find(
@@ -153,7 +158,7 @@ pub(crate) fn ask_search<'a>(
     put(out, gate_end, b"\n")
 }
 
-fn put_trail(out: &mut [u8; ROOM], n: usize, t: Trail) -> usize {
+fn put_trail(out: &mut Pending<'_, impl Print>, n: usize, t: Trail) -> usize {
     let ending = t.ending;
     let last = t.reference;
     let id = last.id;
@@ -180,7 +185,7 @@ pub(crate) fn ask_following<'a>(
     packed: &'a [u8],
     namespace: &[u8],
     x: &[u8],
-    out: &mut [u8; ROOM],
+    out: &mut Pending<'_, impl Print>,
     n: usize,
 ) -> usize {
     let f = follow(

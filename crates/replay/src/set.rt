@@ -3,7 +3,7 @@ use crate::input::{MOST, count_fields, first_field, read_bytes, read_optional, s
 use names::bytes::equal;
 
 // What is set: the length of each byte string, and whether it is there. An absent packed region is an empty one.
-#[derive(Drop)]
+#[derive(Clone, Copy)]
 pub(crate) struct Kept {
     pub worktree: usize,
     pub common: usize,

@@ -1,6 +1,6 @@
 // Questions that no snapshot answers: about names, and the content of a loose file.
 use crate::output::{
-    ROOM, put, put_bytes, put_id, put_line, put_name, put_refused, put_refused_line, put_unknown,
+    Pending, put, put_bytes, put_id, put_line, put_name, put_refused, put_refused_line, put_unknown,
 };
 use blocks::block::LONGEST_CONTENT;
 use blocks::decode::{TargetKind, try_from_path};
@@ -10,14 +10,14 @@ use names::name::{Name, Verdict, is_pseudo_ref, lend, refusal_number};
 use names::namespace::expand;
 use names::validate::{complete, well_formed};
 
-fn put_yes_no(out: &mut [u8; ROOM], n: usize, is_so: bool) -> usize {
+fn put_yes_no(out: &mut Pending<'_, impl Print>, n: usize, is_so: bool) -> usize {
     if is_so {
         return put_line(out, n, b"yes");
     }
     put_line(out, n, b"no")
 }
 
-fn put_order(out: &mut [u8; ROOM], n: usize, o: Order) -> usize {
+fn put_order(out: &mut Pending<'_, impl Print>, n: usize, o: Order) -> usize {
     match o {
         Order::Less => put_line(out, n, b"less"),
         Order::Equal => put_line(out, n, b"equal"),
@@ -26,7 +26,12 @@ fn put_order(out: &mut [u8; ROOM], n: usize, o: Order) -> usize {
 }
 
 // A category and its worktree's name, which stands in s behind worktrees/.
-fn put_category(out: &mut [u8; ROOM], n: usize, category: Category, s: &[u8]) -> usize {
+fn put_category(
+    out: &mut Pending<'_, impl Print>,
+    n: usize,
+    category: Category,
+    s: &[u8],
+) -> usize {
     match category {
         Category::Tag => put(out, n, b"Tag ~"),
         Category::LocalBranch => put(out, n, b"LocalBranch ~"),
@@ -49,7 +54,7 @@ fn put_category(out: &mut [u8; ROOM], n: usize, category: Category, s: &[u8]) ->
     }
 }
 
-fn ask_category(s: &[u8], out: &mut [u8; ROOM], n: usize) -> usize {
+fn ask_category(s: &[u8], out: &mut Pending<'_, impl Print>, n: usize) -> usize {
     let class = category_and_short_name(s);
     match class {
         Class::As { category, off: _ } => {
@@ -61,7 +66,7 @@ fn ask_category(s: &[u8], out: &mut [u8; ROOM], n: usize) -> usize {
     }
 }
 
-fn put_made(out: &mut [u8; ROOM], n: usize, verdict: Verdict, name: Name) -> usize {
+fn put_made(out: &mut Pending<'_, impl Print>, n: usize, verdict: Verdict, name: Name) -> usize {
     match verdict {
         Verdict::Accepted => {
             let word_end = put(out, n, b"name");
@@ -72,7 +77,7 @@ fn put_made(out: &mut [u8; ROOM], n: usize, verdict: Verdict, name: Name) -> usi
     }
 }
 
-fn ask_expansion(s: &[u8], out: &mut [u8; ROOM], n: usize) -> usize {
+fn ask_expansion(s: &[u8], out: &mut Pending<'_, impl Print>, n: usize) -> usize {
     let e = expand(s);
     let verdict = e.verdict;
     let found = e.name;
@@ -80,7 +85,7 @@ fn ask_expansion(s: &[u8], out: &mut [u8; ROOM], n: usize) -> usize {
     put_made(out, n, verdict, name)
 }
 
-fn ask_content(s: &[u8], out: &mut [u8; ROOM], n: usize) -> usize {
+fn ask_content(s: &[u8], out: &mut Pending<'_, impl Print>, n: usize) -> usize {
     if s.len() > LONGEST_CONTENT {
         return put_unknown(out, n);
     }
@@ -103,7 +108,12 @@ fn ask_content(s: &[u8], out: &mut [u8; ROOM], n: usize) -> usize {
 }
 
 // A question about one byte string.
-pub(crate) fn ask_of_one(word: &[u8], s: &[u8], out: &mut [u8; ROOM], n: usize) -> usize {
+pub(crate) fn ask_of_one(
+    word: &[u8],
+    s: &[u8],
+    out: &mut Pending<'_, impl Print>,
+    n: usize,
+) -> usize {
     if equal(word, b"wellformed") {
         return put_yes_no(out, n, well_formed(s));
     }
@@ -126,7 +136,13 @@ pub(crate) fn ask_of_one(word: &[u8], s: &[u8], out: &mut [u8; ROOM], n: usize) 
 }
 
 // A question about two.
-pub(crate) fn ask_of_two(word: &[u8], s: &[u8], t: &[u8], out: &mut [u8; ROOM], n: usize) -> usize {
+pub(crate) fn ask_of_two(
+    word: &[u8],
+    s: &[u8],
+    t: &[u8],
+    out: &mut Pending<'_, impl Print>,
+    n: usize,
+) -> usize {
     if equal(word, b"order") {
         return put_order(out, n, compare(s, t));
     }
@@ -217,7 +233,7 @@ pub(crate) fn ask_full_name(
     worktree: &[u8],
     has_worktree: bool,
     short: &[u8],
-    out: &mut [u8; ROOM],
+    out: &mut Pending<'_, impl Print>,
     n: usize,
 ) -> usize {
     let named = read_category(word);

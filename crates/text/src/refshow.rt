@@ -9,7 +9,7 @@ ghost use Rattle.text.specs.Text.{tab, newline, decimal};
 ghost use Rattle.text.specs.Reflist.{files_check};
 ghost use Rattle.text.specs.Refshow.{words, refused_line, region_word, followed_text, show_text, size_show};
 ghost use Rattle.output.specs.Pasted.{Put};
-ghost use Rattle.text.specs.Promises.{PutWithin, no-less, longest_words, longest_refused, longest_unfit, longest_show};
+ghost use Rattle.text.specs.Promises.{PutWithin, no_less, longest_words, longest_refused, longest_unfit, longest_show};
 
 use crate::buffer::{put, put_id, put_name, put_number};
 use crate::reflist::MOST_LISTED;
@@ -27,7 +27,7 @@ pub const SHOW_SIZE: usize = 1024;
 
 // The same of the numbers from 13 on.
 fn put_words_from_13(out: &mut [u8], at: usize, number: u32) -> usize
-    requires no_less { no-less 13 number }
+    requires not_below { no_less 13 number }
     requires longest_words_in_bounds { at + longest_words ≤ length out.old }
     ensures { PutWithin longest_words out.old at (words number) out.new result }
 {
@@ -61,7 +61,7 @@ fn put_words_from_13(out: &mut [u8], at: usize, number: u32) -> usize
 
 // The same of the numbers from 9 on.
 fn put_words_from_9(out: &mut [u8], at: usize, number: u32) -> usize
-    requires no_less { no-less 9 number }
+    requires not_below { no_less 9 number }
     requires longest_words_in_bounds { at + longest_words ≤ length out.old }
     ensures { PutWithin longest_words out.old at (words number) out.new result }
 {
@@ -102,7 +102,7 @@ fn put_words_from_9(out: &mut [u8], at: usize, number: u32) -> usize
 
 // The same of the numbers from 5 on.
 fn put_words_from_5(out: &mut [u8], at: usize, number: u32) -> usize
-    requires no_less { no-less 5 number }
+    requires not_below { no_less 5 number }
     requires longest_words_in_bounds { at + longest_words ≤ length out.old }
     ensures { PutWithin longest_words out.old at (words number) out.new result }
 {

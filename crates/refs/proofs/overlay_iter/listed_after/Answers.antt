@@ -1,0 +1,10 @@
+use Rattle.refs.proofs.overlay_iter.listed_after.Goals as goal
+
+pub returns-in-Right : goal.returns-in-Right
+returns-in-Right c r = rw c.in-Right.is (c.listed_of.ensures r)
+
+pub returns-in-NotWhole : goal.returns-in-NotWhole
+returns-in-NotWhole c r = rw c.in-NotWhole.is
+
+pub returns-in-TooMany : goal.returns-in-TooMany
+returns-in-TooMany c r = rw c.in-TooMany.is
