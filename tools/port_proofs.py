@@ -83,6 +83,8 @@ def paths(body, names, left):
         if flat(m[3]) in names.told:
             body = re.sub(rf"(?<![\w.'-]){re.escape(m[1])}(?=\.)", m[2], body.replace(m[0], "", 1))
 
+    whole = {"c"} | {m[1] for m in re.finditer(r"let ([\w₀-₉']+) = c in", body)}
+
     def one(m):
         parts = m[2].split(".")[1:]
         for k in range(len(parts), 0, -1):
@@ -90,7 +92,7 @@ def paths(body, names, left):
             if key in names.arms:
                 return ".".join([m[1], names.arms[key], *parts[k:]])
         new = names.fields.get(flat(parts[0])) or re.sub(r"(?<=\w)-(?=[a-z])", "_", parts[0])
-        return ".".join([m[1], new, *parts[1:]]) if m[1] == "c" or flat(parts[0]) in names.fields and m[1] not in HEADS else m[0]
+        return ".".join([m[1], new, *parts[1:]]) if m[1] in whole else m[0]
 
     body = re.sub(rf"(?<![\w.'-])([\w₀-₉']+)((?:\.{NAME})+)", one, body)
     body = re.sub(rf"(?<=args\.){NAME}", lambda m: m[0].replace("-", "_"), body)
@@ -164,9 +166,10 @@ def convert(path, names, crate, where):
     # A helper over the facts of a place is written out, since each place has facts of its own.
     macros, others = {}, []
     for h in helpers:
-        m = re.match(rf"({NAME}) : (?:{{[^}}]*}} )?\(c : (?:goal|tie)\.", h[1])
-        if m and len(h[3]) == 1 and re.match(rf"{re.escape(m[1])} c\s*=", h[3][0]):
-            macros[m[1]] = ("(" + re.sub(r"\s*\n\s*", " ", h[3][0].split("=", 1)[1].strip()) + ")", h[2].split()[1:])
+        m = re.match(rf"({NAME}) : (?:{{[^}}]*}} )?\(({NAME}) : (?:goal|tie)\.", h[1])
+        if m and len(h[3]) == 1 and (v := re.match(rf"{re.escape(m[1])} ({NAME})\s*=", h[3][0])):
+            text = re.sub(rf"(?<![\w.'-]){re.escape(v[1])}(?=\.)", "c", re.sub(r"\s*\n\s*", " ", h[3][0].split("=", 1)[1].strip()))
+            macros[m[1]] = ("(" + text + ")", h[2].split()[1:])
         else:
             others.append(h)
 
@@ -229,7 +232,7 @@ def main():
                     out.append(m[1] + ", ".join(kept) + "}" + m[3])
             return out
         if inv:
-            invs = [(c, s, u, paths(b, names, left)) for c, s, u, b in inv]
+            invs = inv
             (path.parent / "Invariants.antt").write_text("\n".join(used(invs) + [f"use Rattle.{crate}.proofs.{where}.Given as goal"]) + "\n\n" + "\n\n".join(show(i) for i in invs) + "\n")
         if ans or helpers:
             anss = [(c, s, u, paths(b, names, left), [paths(x, names, left) for x in more]) for c, s, u, b, more in ans]

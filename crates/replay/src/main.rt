@@ -89,15 +89,13 @@ fn answer(
 // Puts s behind the line, as far as it is kept, and answers how long the line is then.
 fn gather(s: &[u8], line: &mut [u8; LONGEST_LINE], len: usize) -> usize {
     let mut end = len;
-    let mut i: usize = 0;
-    while i < s.len() {
+    for b in s {
         if end < LONGEST_LINE {
-            line[end] = s[i];
+            line[end] = *b;
             end += 1;
         } else {
             end = LONGEST_LINE + 1;
         }
-        i += 1;
     }
     end
 }

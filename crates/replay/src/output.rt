@@ -40,10 +40,8 @@ fn put_byte(out: &mut Pending<'_, impl Print>, n: usize, b: u8) -> usize {
 
 pub(crate) fn put(out: &mut Pending<'_, impl Print>, n: usize, s: &[u8]) -> usize {
     let mut at = n;
-    let mut i: usize = 0;
-    while i < s.len() {
-        at = put_byte(out, at, s[i]);
-        i += 1;
+    for b in s {
+        at = put_byte(out, at, *b);
     }
     at
 }
@@ -64,11 +62,9 @@ fn low_digit(b: u8) -> u8 {
 
 fn put_pairs(out: &mut Pending<'_, impl Print>, n: usize, s: &[u8]) -> usize {
     let mut at = n;
-    let mut i: usize = 0;
-    while i < s.len() {
-        at = put_byte(out, at, high_digit(s[i]));
-        at = put_byte(out, at, low_digit(s[i]));
-        i += 1;
+    for b in s {
+        at = put_byte(out, at, high_digit(*b));
+        at = put_byte(out, at, low_digit(*b));
     }
     at
 }

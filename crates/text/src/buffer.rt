@@ -8,7 +8,6 @@ ghost use Rattle.output.specs.Pasted.{Put};
 ghost use Rattle.text.specs.Promises.{PutWithin, most_digits};
 
 use blocks::parse::Id;
-use itoa::Buffer;
 use names::name::{Name, lend};
 
 // Puts s behind the first `at` bytes, and answers where it ends.
@@ -41,6 +40,7 @@ pub(crate) fn put_number(out: &mut [u8], at: usize, n: u64) -> usize
     requires { at + most_digits ≤ length out.old }
     ensures { PutWithin most_digits out.old at (decimal n) out.new result }
 {
-    let mut digits = Buffer::new();
-    put(out, at, digits.format(n).as_bytes())
+    let mut digits = [0u8; 20];
+    let k = io::decimal(n, &mut digits);
+    put(out, at, &digits[..k])
 }

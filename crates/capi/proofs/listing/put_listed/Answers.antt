@@ -1,0 +1,16 @@
+use Rattle.capi.proofs.listing.put_listed.Goals as goal
+
+pub returns-in-NotWhole : goal.returns-in-NotWhole
+returns-in-NotWhole c = rw c.in-NotWhole.is c.put_number.ensures
+
+pub returns-in-TooMany : goal.returns-in-TooMany
+returns-in-TooMany c = rw c.in-TooMany.is c.put_number-in-TooMany.ensures
+
+pub returns-in-Entry : goal.returns-in-Entry
+returns-in-Entry c = rw c.in-Entry.is c.put_numbered.ensures
+
+pub returns-in-Refused : goal.returns-in-Refused
+returns-in-Refused c = rw (c.in-Refused.is, ← c.reason_number.ensures) c.put_number-in-Refused.ensures
+
+pub returns-in-Ended : goal.returns-in-Ended
+returns-in-Ended c = rw c.in-Ended.is c.put_number-in-Ended.ensures
