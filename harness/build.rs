@@ -1,29 +1,48 @@
-// Links the archive that `rt staticlib capi` writes, and makes the twin: the sources of capi and of the crates below it
+// Links the archive that `tools/archive` writes, and makes the twin: the sources of capi and of the crates below it
 // without their contracts, as Rust.
 use std::collections::BTreeMap;
 use std::path::{Path, PathBuf};
 use std::{env, fs};
 
+/// What stands in front of a line's contract or attribute, and is no Rust: the kinds of clause, each perhaps with a star and a name.
+fn is_clause(bare: &str) -> bool {
+    ["requires", "ensures", "ghost"].iter().any(|word| {
+        bare.strip_prefix(word).is_some_and(|rest| rest.starts_with([' ', '*']) && rest.contains('{'))
+    })
+}
+
+/// How many braces a line opens, and does not close.
+fn open_braces(line: &str) -> isize {
+    line.chars().map(|c| match c { '{' => 1, '}' => -1, _ => 0 }).sum()
+}
+
+/// A call of the C boundary, by the first line of its head.
+fn boundary_call(line: &str) -> Option<&str> {
+    let rest = line.strip_prefix("pub extern \"C\" fn ").or_else(|| line.strip_prefix("pub fn "))?;
+    rest.split(['<', '(']).next().filter(|name| name.starts_with("cosvint_"))
+}
+
 /// A source file as the body of a Rust module of the crate `name`, which uses the crates `below`.
 fn body(file: &Path, name: &str, below: &[String]) -> String {
     let text = fs::read_to_string(file).unwrap();
     let mut out = format!("use crate::twin::{{{}}};\n", below.join(", "));
+    let mut clause = 0;
     for line in text.lines() {
         let bare = line.trim_start();
-        if bare.starts_with("requires {") || bare.starts_with("ensures {") {
-            assert!(line.ends_with('}'), "{}: a contract of several lines", file.display());
+        if clause > 0 || is_clause(bare) && !bare.starts_with("ghost use ") {
+            clause += open_braces(line);
+            assert!(clause >= 0, "{}: a contract of a form that this cannot take away", file.display());
             continue;
         }
-        if line.starts_with("ghost use ") || line.starts_with("pub mod ") {
-            continue;
-        }
-        if line == "#[no_mangle]" {
-            out += "#[inline(never)]\n";
+        if ["ghost use ", "pub mod ", "mod ", "#![", "#[tactic", "#[cycle", "#[derive", "#[unsafe(no_mangle)]", "prove!("].iter().any(|it| bare.starts_with(it)) {
             continue;
         }
         let item = line.strip_prefix("pub ").unwrap_or(line);
         if item.starts_with("struct ") || item.starts_with("enum ") {
             out += "#[derive(Clone, Copy)]\n";
+        }
+        if boundary_call(line).is_some() {
+            out += "#[inline(never)]\n";
         }
         out += &line.replace("extern \"C\" ", "").replace("crate::", &format!("crate::twin::{name}::"));
         out += "\n";
@@ -37,7 +56,8 @@ fn crates(root: &Path) -> BTreeMap<String, Vec<String>> {
     println!("cargo:rerun-if-changed={}", list.display());
     let text = fs::read_to_string(list).unwrap();
     let lines = text.lines().filter_map(|line| line.split_once(':'));
-    lines.map(|(name, below)| (name.to_string(), below.split_whitespace().map(String::from).collect())).collect()
+    let of = |name: &str| name.split_whitespace().next().unwrap_or_default().to_string();
+    lines.map(|(name, below)| (of(name), below.split_whitespace().map(String::from).collect())).collect()
 }
 
 fn files(folder: &Path) -> Vec<PathBuf> {
@@ -49,9 +69,7 @@ fn files(folder: &Path) -> Vec<PathBuf> {
 /// What other code may call of a file of capi by its name alone, wherever it stands.
 fn exports(file: &Path, module: &str) -> String {
     let text = fs::read_to_string(file).unwrap();
-    let calls = text.lines().filter_map(|line| line.strip_prefix("pub extern \"C\" fn "));
-    let names = calls.map(|call| call.split(['<', '(']).next().unwrap());
-    names.map(|name| format!("pub use {module}::{name};\n")).collect()
+    text.lines().filter_map(boundary_call).map(|name| format!("pub use {module}::{name};\n")).collect()
 }
 
 fn twin(root: &Path) -> String {

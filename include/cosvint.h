@@ -2,7 +2,7 @@
  * Cosvint: what C and C++ may call to read git references from a snapshot.
  *
  * A snapshot is three regions, worktree, common and packed, each a run of 512-byte blocks (document 01, "Blocks"). Every call
- * is handed the regions, looks at them, and answers a number. Link the archive that `rt staticlib capi` makes,
+ * is handed the regions, looks at them, and answers a number. Link the archive that `tools/archive` makes,
  * target/staticlib/libcapi.a.
  *
  * What holds of every call:

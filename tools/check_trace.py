@@ -52,9 +52,27 @@ def items(found={}):
             if m := re.match(ITEM, line):
                 path = f"{module}::{m[2]}"
                 found[path] = (set(), module)
-            if path and not re.match(r"\s*(//|requires|ensures|ghost|use )", line):
+            if path and not re.match(r"\s*(//|#|requires|ensures|ghost|(?:pub )?use )", line):
                 found[path][0].update(re.findall(r"(?:\w+::)*\w+", line.split("//")[0]))
     return found
+
+
+def named(tree, base=""):
+    """The paths that the inside of a `use` names: `a::b`, `{a, b::{c, d as e}}`; as (name, path)."""
+    depth, part, parts = 0, "", []
+    for c in tree:
+        depth += {"{": 1, "}": -1}.get(c, 0)
+        if c == "," and not depth:
+            parts.append(part)
+            part = ""
+        else:
+            part += c
+    for it in filter(None, (each.strip() for each in [*parts, part])):
+        if m := re.fullmatch(r"((?:\w+::)*)\{(.*)\}", it, re.S):
+            yield from named(m[2], base + m[1])
+        elif m := re.fullmatch(r"((?:\w+::)*\w+)(?: as (\w+))?", it):
+            path = (base + m[1]).removesuffix("::self")
+            yield m[2] or path.rpartition("::")[2], path
 
 
 def imports(module):
@@ -62,7 +80,8 @@ def imports(module):
     parts = module.split("::")
     stems = ["lib", "main"] if len(parts) == 1 else [parts[1]]
     text = "".join((crates / parts[0] / "src" / f"{s}.rt").read_text() for s in stems if (crates / parts[0] / "src" / f"{s}.rt").is_file())
-    return {p.split("::")[-1]: p.replace("crate::", parts[0] + "::", 1) for p in re.findall(r"^use ([\w:]+);", text, re.M)}
+    items = (it for tree in re.findall(r"^(?:pub )?use ([^;]+);", text, re.M) for it in named(tree))
+    return {name: path.replace("crate::", parts[0] + "::", 1) for name, path in items}
 
 
 def reached(roots):
@@ -77,7 +96,7 @@ def reached(roots):
         used = known.setdefault(module, imports(module))
         for word in words:
             first, _, rest = word.partition("::")
-            base = used.get(first, first if first in ("output", "names", "blocks", "refs", "text", "files") else f"{module}::{first}")
+            base = used.get(first, first if first in ("output", "names", "blocks", "refs", "capi", "text", "files") else f"{module}::{first}")
             base = base.replace("crate", module.split("::")[0], 1) if first == "crate" else base
             todo += [base, f"{base}::{rest}" if rest else base, f"{module.split('::')[0]}::{word}", word.replace("crate::", module.split("::")[0] + "::")]
             if rest and base.count("::") == 2:  # an associated function: Type::name of the type's module
@@ -88,16 +107,21 @@ def reached(roots):
 def unfolded_above(crate):
     """The proofs of other crates that unfold a definition of this one, and those outside COMPUTING that compute."""
     owned = {name for file in (crates / crate / "specs").glob("*.antt") for name in re.findall(r"^\s*unfoldable (?:pub )?(\S+)", file.read_text(), re.M)}
+    for file in sorted(crates.glob("*/src/**/*.rt")):
+        for names in re.findall(r"\bunfolding\(([^)]*)\)", file.read_text()):
+            for name in re.findall(rf"\b{crate}::specs::\w+::(\w+)", names):
+                if name in owned and file.relative_to(crates).parts[0] != crate:
+                    yield f"{file.relative_to(root)} unfolds {name} of {crate}"
     for file in sorted(crates.glob("*/proofs/**/*.antt")):
         text = file.read_text()
         parts = file.relative_to(crates).with_suffix("").parts
         if parts[-1] == "Computing":
             continue
-        if f"{parts[0]}/{parts[-1]}" not in COMPUTING and re.search(r"^\s*unfolding .*-compute\b", text, re.M):
+        if f"{parts[0]}/{parts[-1]}" not in COMPUTING and re.search(r"^\s*unfolding .*_compute\b", text, re.M):
             yield f"{file.relative_to(root)} computes, and is not among the modules that may"
         if parts[0] == crate:
             continue
-        imported = set(re.findall(r"[^\s,{}]+", " ".join(re.findall(rf"^use Rattle·{crate}\.specs\.[^{{\n]*\{{([^}}]*)\}}", text, re.M))))
+        imported = set(re.findall(r"[^\s,{}]+", " ".join(re.findall(rf"^use Rattle\.{crate}\.specs\.[^{{\n]*\{{([^}}]*)\}}", text, re.M))))
         for line in re.findall(r"^\s*unfolding ([^=:()\n]*(?:\n +[^=:()\n]*$)*)", text, re.M):
             for name in sorted(owned & imported & set(line.split())):
                 yield f"{file.relative_to(root)} unfolds {name} of {crate}"
@@ -105,7 +129,7 @@ def unfolded_above(crate):
 
 def main():
     text = (root / "docs" / "TRACE.md").read_text()
-    calls = [path for path in items() if path.startswith("capi::") and "::cosvint_" in path]
+    calls = [path for path in items() if path.startswith("capi_c::cosvint_")]
     shipped = reached([*calls, "reflist::main", "refshow::main"])
     replayed = reached(["replay::main"])
     known, bad = set(), []

@@ -1,4 +1,4 @@
-//! Links libcapi.a from COSVINT_LIB_DIR, by default from where `rt staticlib capi` writes it.
+//! Links libcapi.a from COSVINT_LIB_DIR, by default from where `tools/archive` writes it.
 use std::path::{Path, PathBuf};
 use std::{env, process};
 
@@ -10,7 +10,7 @@ fn main() {
     println!("cargo:rerun-if-changed={}", archive.display());
     if !archive.is_file() {
         eprintln!("{} is missing.", archive.display());
-        eprintln!("Make it with `rt staticlib capi` at the top of the repository,");
+        eprintln!("Make it with `tools/archive` at the top of the repository,");
         eprintln!("or set COSVINT_LIB_DIR to the folder that holds libcapi.a.");
         process::exit(1);
     }

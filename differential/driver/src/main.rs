@@ -98,7 +98,7 @@ fn start(args: &[String]) -> io::Result<bool> {
 
 /// The scratch directory, and `replay` where another user can run it: a copy, or itself if copies can't be run.
 fn prepare() -> io::Result<(Scratch, Replay)> {
-    let path = env::var_os("COSVINT_REPLAY").map_or_else(|| PathBuf::from("target/bin/replay"), PathBuf::from);
+    let path = env::var_os("COSVINT_REPLAY").map_or_else(|| PathBuf::from("crates/replay/out/replay"), PathBuf::from);
     let missing = |err| format!("{}: {err}; build it, or say in COSVINT_REPLAY where it is", path.display());
     let path = fs::canonicalize(&path).map_err(|err| io::Error::other(missing(err)))?;
     let scratch = Scratch::new()?;
