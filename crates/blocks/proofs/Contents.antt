@@ -1,4 +1,5 @@
 -- What a loose content says, by how it begins.
+use Rattle.std.specs.Prelude.{if◌then◌else◌}
 use mathlib.Core.Path.{◌≡◌, refl, sym}
 use mathlib.Core.Bool.{Bool, true, false, not}
 use mathlib.Core.List.{[], ◌∷◌}
@@ -9,11 +10,11 @@ use borrow.Author.Tests.{leb-true}
 use lib.Dec.{eqb}
 use lib.ListN.{length, take, drop, get_or, drop_of_length-le, length-drop}
 use lib.Seq.{drop-cons}
-use Rattle.names.specs.Bytes.{Bytes, bytes, if◌then◌else◌, same, starts_with, every, after}
+use Rattle.names.specs.Bytes.{Bytes, bytes, same, starts_with, every, after}
 use Rattle.names.specs.Name.{fits}
 use Rattle.names.specs.Means.{if_fits}
 use Rattle.names.specs.WellFormed.{complete}
-use Rattle.names.proofs.Tests.{and_left, none≢some, if-case}
+use Rattle.names.proofs.Tests.{and_left, none≢some, if_case}
 use Rattle.blocks.specs.Content.{object, symbolic, reads, unreadable, is_hex, lower_case, ends_line, skip_spaces, line, target_name_in, begins_hex, read_target, read_id, read}
 use Rattle.blocks.specs.Means.{id_in, is_id, parsed, kind_reading, kind_held, within_name}
 use Rattle.blocks.specs.declared.decode.TargetKind.{TargetKind}
@@ -42,7 +43,7 @@ module _ (width : ℕ) (s : Bytes) where
       → (starts_with (bytes "ref: ") s ≡ false → is_id width s ≡ true → P Id)
       → (starts_with (bytes "ref: ") s ≡ false → is_id width s ≡ false → P Neither)
       → P (parsed width s)
-  by_state P f g h = if-case P (starts_with (bytes "ref: ") s) f (λ a. if-case P (is_id width s) (g a) (h a))
+  by_state P f g h = if_case P (starts_with (bytes "ref: ") s) f (λ a. if_case P (is_id width s) (g a) (h a))
 
   -- what each state says of the content
   abbrev Says : State → Type 0

@@ -1,4 +1,5 @@
 -- Blocks as parts of a region, and their names and contents as parts of a block.
+use Rattle.std.specs.Prelude.{if◌then◌else◌}
 use mathlib.Core.Path.{◌≡◌, refl}
 use Prim.Native.Nat.{ℕ, ◌+◌, ◌-◌, ◌≤◌, ◌<◌}
 use native.Mathlib.Nat.{add-sub_cancel_left}
@@ -10,7 +11,7 @@ use borrow.Author.Tests.{leb-true, le-leb, lt-leb, ne_eqb}
 use lib.Dec.{leb, ltb}
 use lib.ListN.{length, take, drop, length-take, length-drop}
 use lib.Seq.{take_all}
-use Rattle.names.specs.Bytes.{Bytes, if◌then◌else◌}
+use Rattle.names.specs.Bytes.{Bytes}
 use Rattle.names.specs.Name.{longest}
 use Rattle.blocks.specs.Layout.{block_size, name_at, content_at, longest_content}
 use Rattle.blocks.specs.Block.{between, name_length, content_length, block_name, block_content}

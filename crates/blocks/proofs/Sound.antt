@@ -1,4 +1,5 @@
 -- Sound blocks: those of a region without a flaw need no second check, and the ids of a record are whole.
+use Rattle.std.specs.Prelude.{if◌then◌else◌}
 use mathlib.Core.Path.{◌≡◌, refl, sym, ◌∙◌}
 use mathlib.Core.Bool.{Bool, true, false, ◌&&◌}
 use mathlib.Core.Logic.{◌⊎◌, ⊎_elim, inl, inr}
@@ -10,7 +11,7 @@ use borrow.Author.Tests.{ltb-true, ltb-false, leb-false, eqb-true}
 use lib.Dec.{leb, ltb, eqb}
 use lib.ListN.{length, take, drop, length-take, length-drop}
 use lib.Seq.{take_all}
-use Rattle.names.specs.Bytes.{Bytes, if◌then◌else◌, every}
+use Rattle.names.specs.Bytes.{Bytes, every}
 use Rattle.names.specs.WellFormed.{well_formed}
 use Rattle.names.proofs.Tests.{none≢some, and_left, and_right, or_eq}
 use Rattle.blocks.specs.Layout.{block_size}

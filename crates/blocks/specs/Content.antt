@@ -1,6 +1,6 @@
 -- What the content of a loose file says (loose/reference/decode.rs, parse.rs). An id has `width` digits.
-use Rattle.std.specs.Prelude.{ℕ, ◌+◌, [], ◌∷◌, map, Bool, false, ◌&&◌, ◌||◌, not, leb, eqb, length, take, drop}
-use Rattle.names.specs.Bytes.{Bytes, bytes, if◌then◌else◌, same, starts_with, every, after}
+use Rattle.std.specs.Prelude.{ℕ, ◌+◌, [], ◌∷◌, map, Bool, false, ◌&&◌, ◌||◌, not, leb, eqb, length, take, drop, if◌then◌else◌}
+use Rattle.names.specs.Bytes.{Bytes, bytes, same, starts_with, every, after}
 use Rattle.names.specs.WellFormed.{complete}
 
 -- `Target`: an object id, or the name of another reference

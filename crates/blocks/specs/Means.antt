@@ -1,7 +1,7 @@
 -- What the code's types mean, and parts that its answers speak of.
-use Rattle.std.specs.Prelude.{◌≡◌, ℕ, zero, suc, ◌+◌, ◌*◌, ◌/◌, ◌≤◌, List, [], ◌∷◌, ◌++◌, Bool, true, false, ◌&&◌, not, leb, ltb, length, take, drop, replicate}
+use Rattle.std.specs.Prelude.{◌≡◌, ℕ, zero, suc, ◌+◌, ◌*◌, ◌/◌, ◌≤◌, List, [], ◌∷◌, ◌++◌, Bool, true, false, ◌&&◌, not, leb, ltb, length, take, drop, replicate, if◌then◌else◌}
 use Rattle.std.proofs.Math.Option.{Option, none, some}
-use Rattle.names.specs.Bytes.{Bytes, bytes, if◌then◌else◌, starts_with, every}
+use Rattle.names.specs.Bytes.{Bytes, bytes, starts_with, every}
 use Rattle.names.specs.Check.{Check}
 use Rattle.names.specs.Name.{longest, fits}
 use Rattle.names.specs.Means.{content}

@@ -1,7 +1,7 @@
 // A block of 512 bytes: its fields, and when it is damaged.
-ghost use Rattle.std.specs.Prelude.{◌≡◌, ◌+◌, ◌*◌, ◌<◌, ◌≤◌, true, ◌||◌, not, eqb, length, take};
+ghost use Rattle.std.specs.Prelude.{◌≡◌, ◌+◌, ◌*◌, ◌<◌, ◌≤◌, true, ◌||◌, not, eqb, length, take, if◌then◌else◌};
 ghost use Rattle.std.proofs.Math.Option.{some};
-ghost use Rattle.names.specs.Bytes.{Bytes, if◌then◌else◌, every};
+ghost use Rattle.names.specs.Bytes.{Bytes, every};
 ghost use Rattle.names.specs.Name.{longest};
 ghost use Rattle.blocks.specs.Layout.{block_size, content_at, sum_at};
 ghost use Rattle.blocks.specs.Block.{is_zero, content_length, name_length, weighted, sum_right, lengths_right, unused_zero, kind_suits, record_right, shape_right, sound};

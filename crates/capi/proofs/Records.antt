@@ -1,11 +1,12 @@
 -- Records, field by field.
+use Rattle.std.specs.Prelude.{if◌then◌else◌}
 use mathlib.Core.Path.{◌≡◌}
 use Prim.Native.Nat.{ℕ, ◌+◌, ◌*◌}
 use native.Mathlib.Omega.{arith}
 use mathlib.Core.Bool.{Bool, true, false, not}
 use mathlib.Core.List.{[], ◌++◌}
 use lib.ListN.{length, length-append}
-use Rattle.names.specs.Bytes.{Bytes, if◌then◌else◌}
+use Rattle.names.specs.Bytes.{Bytes}
 use Rattle.names.specs.Name.{longest}
 use Rattle.blocks.specs.Means.{id_width}
 use Rattle.refs.specs.declared.raw.Kind.{Kind}

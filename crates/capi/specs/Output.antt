@@ -1,6 +1,6 @@
 -- What a call answers and what it leaves in the outputs that are lent to it.
-use Rattle.std.specs.Prelude.{◌≡◌, ℕ, zero, suc, List, [], ◌∷◌, ◌++◌, Bool, ◌&&◌, leb, length, drop}
-use Rattle.names.specs.Bytes.{Bytes, if◌then◌else◌}
+use Rattle.std.specs.Prelude.{◌≡◌, ℕ, zero, suc, List, [], ◌∷◌, ◌++◌, Bool, ◌&&◌, leb, length, drop, if◌then◌else◌}
+use Rattle.names.specs.Bytes.{Bytes}
 use Rattle.names.specs.Check.{Checked, gives, refuses}
 use Rattle.blocks.specs.Snapshot.{Snapshot}
 use Rattle.blocks.specs.Means.{id_width}

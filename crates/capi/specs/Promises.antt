@@ -1,7 +1,7 @@
 -- What private functions promise.
-use Rattle.std.specs.Prelude.{◌≡◌, ℕ, [], Bool, true, false}
+use Rattle.std.specs.Prelude.{◌≡◌, ℕ, [], Bool, true, false, if◌then◌else◌}
 use Rattle.std.proofs.Math.Option.{Option, none, some}
-use Rattle.names.specs.Bytes.{Bytes, if◌then◌else◌}
+use Rattle.names.specs.Bytes.{Bytes}
 use Rattle.blocks.specs.Fitness.{Flaw}
 use Rattle.refs.specs.Answer.{Reference}
 use Rattle.refs.specs.Search.{after_checks}

@@ -1,7 +1,6 @@
 // Reports: the number, a block's place and a reference, at fixed places of an output.
 ghost use Rattle.std.proofs.Math.Option.{none, some};
-ghost use Rattle.std.specs.Prelude.{◌≡◌, [], ◌++◌, replicate};
-ghost use Rattle.names.specs.Bytes.{if◌then◌else◌};
+ghost use Rattle.std.specs.Prelude.{◌≡◌, [], ◌++◌, replicate, if◌then◌else◌};
 ghost use Rattle.blocks.specs.Means.{region_of, reason_number};
 ghost use Rattle.refs.specs.Means.{answered, trail_of};
 ghost use Rattle.capi.specs.Report.{report, region_number, unfit_report, answer_report, followed_report};

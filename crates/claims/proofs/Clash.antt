@@ -10,7 +10,7 @@ use Rattle.names.specs.Bytes.{Bytes, bytes, starts_with, strip}
 use Rattle.names.specs.Name.{under_refs, directory}
 use Rattle.names.specs.Candidates.{Candidate}
 use Rattle.names.specs.Route.{Base, own, shared, route, packed_name}
-use Rattle.names.proofs.Tests.{if-case, if_eq, or_eq, false_of, not_both, none≢some, none_of}
+use Rattle.names.proofs.Tests.{if_case, if_eq, or_eq, false_of, not_both, none≢some, none_of}
 use Rattle.names.proofs.Orders.{same_refl}
 use Rattle.names.proofs.Prefix.{starts_trans, starts_longer, starts_split, directory_cancel, directory_starts, strip_kept}
 use Rattle.names.proofs.Placed.{begins_r, placed, placed_own, placed_under}
@@ -46,7 +46,7 @@ clash_of p (k ∷ l) h = or_eq (directory_of (name_of k) p) (clashes p l) (sym (
     later : Clash p l → Clash p (k ∷ l)
     later c =
         let b : (f : Entry) × (block_of c.dir (k ∷ l) ≡ some f) =
-        rw (block_more c.dir k l) (if-case (λ (o : Option Entry). (f : Entry) × (o ≡ some f)) (bears c.dir (name_of k)) (λ _. (k, refl)) (λ _. (c.block, c.borne))) in
+        rw (block_more c.dir k l) (if_case (λ (o : Option Entry). (f : Entry) × (o ≡ some f)) (bears c.dir (name_of k)) (λ _. (k, refl)) (λ _. (c.block, c.borne))) in
         record { dir = c.dir; block = b.0; borne = b.1; above = c.above }
 
 -- ---- what is held

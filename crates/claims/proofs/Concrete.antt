@@ -1,9 +1,10 @@
 -- The premises of demand 3 on a snapshot that is written out: each is a test over the names that its blocks bear.
+use Rattle.std.specs.Prelude.{if◌then◌else◌}
 use mathlib.Core.Path.{◌≡◌, refl, sym, subst, ◌∙◌}
 use mathlib.Core.Logic.{◌⊎◌, inl}
 use mathlib.Core.List.{List, [], ◌∷◌, ◌++◌}
 use mathlib.Core.Bool.{Bool, true, false, ◌&&◌, ◌||◌, not}
-use Rattle.names.specs.Bytes.{Bytes, if◌then◌else◌, same}
+use Rattle.names.specs.Bytes.{Bytes, same}
 use Rattle.names.specs.Name.{directory}
 use borrow.Author.Tests.{not-true}
 use Rattle.names.proofs.Tests.{and_left, and_right, or_eq, or-false, not_both}

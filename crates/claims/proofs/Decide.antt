@@ -1,4 +1,5 @@
 -- The premises of demand 3, one of them left out or none, as a test that computes on two snapshots that are written out.
+use Rattle.std.specs.Prelude.{if◌then◌else◌}
 use mathlib.Core.Path.{◌≡◌, refl, sym, ap₂, ◌∙◌}
 use mathlib.Core.Logic.{◌⊎◌, inl, inr}
 use Prim.Native.Nat.{ℕ}
@@ -7,7 +8,7 @@ use mathlib.Core.Bool.{Bool, true, false, ◌&&◌, not, false≢true}
 use mathlib.Core.Option.{Option, none, some}
 use lib.Dec.{eqb}
 use lib.ListN.{take}
-use Rattle.names.specs.Bytes.{Bytes, if◌then◌else◌, same}
+use Rattle.names.specs.Bytes.{Bytes, same}
 use Rattle.names.specs.Name.{under_refs, remote_head}
 use Rattle.names.specs.WellFormed.{well_formed}
 use Rattle.names.specs.Category.{is_private}
@@ -20,7 +21,7 @@ use Rattle.blocks.specs.Snapshot.{Snapshot, or_empty, is_there, region_at, size_
 use Rattle.claims.specs.Demand3.{Held, held_in, Agree, PackedId}
 use Rattle.claims.proofs.Computing.{refs_compute}
 use Rattle.claims.proofs.Concrete.{all_of, AllOf, names_in, names_of, flat_names, flat_by, covers, each_by}
-use Rattle.claims.proofs.LeftOut.{Premise, both_fit, no_directory, shared_names, under_refs_only, not_remote_heads, same_id, where_search_reads, no_other_block, worktree_alike, others_agree, both_or_neither_common, kept, Keeps, LooseIn, HasBut, DifferBut, CutBut}
+use Rattle.claims.proofs.LeftOut.{Premise, both_fit, no_directory, shared_names, under_refs_only, not_remote_heads, same_id, where_search_reads, no_other_block, worktree_alike, others_agree, both_or_neither_common, kept, Keeps, Where, LooseIn, HasBut, DifferBut, CutBut}
 
 -- ---- tests, and what they tell
 
@@ -44,7 +45,7 @@ if_kept out p t = if kept out p then t else true
 keeps : (out : Option Premise) (p : Premise) {A : Type 0} (t : Bool) → (t ≡ true → A) → if_kept out p t ≡ true → Keeps out p A
 keeps out p {A} t f h = go (kept out p) h
   where
-    go : (k : Bool) → (if k then t else true) ≡ true → if k then A else Unit {0}
+    go : (k : Bool) → (if k then t else true) ≡ true → Where k A
     go true h = f h
     go false h = tt
 

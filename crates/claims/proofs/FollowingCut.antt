@@ -1,10 +1,11 @@
 -- Following two snapshots that differ by a cut: 14 can't strike one side only, since an object's name is never one seen.
+use Rattle.std.specs.Prelude.{if◌then◌else◌}
 use mathlib.Core.Path.{◌≡◌, refl}
 use mathlib.Core.Logic.{inl, inr}
 use Prim.Native.Nat.{ℕ, zero, suc}
 use mathlib.Core.List.{List, [], ◌∷◌}
 use mathlib.Core.Bool.{Bool, true, false}
-use Rattle.names.specs.Bytes.{Bytes, if◌then◌else◌}
+use Rattle.names.specs.Bytes.{Bytes}
 use Rattle.blocks.specs.Content.{Target, object, symbolic}
 use Rattle.blocks.specs.Snapshot.{Store}
 use Rattle.refs.specs.Answer.{Reference, Answer, nothing, found, refused}

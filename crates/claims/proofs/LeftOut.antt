@@ -1,4 +1,5 @@
 -- The premises of demand 3 with one of them left out, or none.
+use Rattle.std.specs.Prelude.{if◌then◌else◌}
 use mathlib.Core.Path.{◌≡◌, refl, subst}
 use mathlib.Core.Logic.{◌⊎◌, inl, inr}
 use Prim.Native.Nat.{ℕ}
@@ -6,7 +7,7 @@ use mathlib.Core.List.{[], ◌∷◌}
 use mathlib.Core.Bool.{Bool, true, false, not}
 use mathlib.Core.Option.{Option, none, some}
 use lib.Dec.{eqb}
-use Rattle.names.specs.Bytes.{Bytes, if◌then◌else◌}
+use Rattle.names.specs.Bytes.{Bytes}
 use Rattle.names.specs.Name.{under_refs, remote_head}
 use Rattle.names.specs.WellFormed.{well_formed}
 use Rattle.names.specs.Category.{is_private}
@@ -49,8 +50,13 @@ abbrev pub kept : Option Premise → Premise → Bool
 kept none p = true
 kept (some q) p = not (eqb (index q) (index p))
 
+-- what has to hold where a test does
+abbrev pub Where : Bool → Type 0 → Type 0
+Where true A = A
+Where false A = Unit {0}
+
 abbrev pub Keeps : Option Premise → Premise → Type 0 → Type 0
-Keeps out p A = if kept out p then A else Unit {0}
+Keeps out p A = Where (kept out p) A
 
 -- ---- the premises of specs/Demand3, one of them left out, or none
 

@@ -1,5 +1,6 @@
 -- A candidate in two snapshots that differ by a cut: equal answers, or two objects with one id under names that no symbolic
 -- reference has.
+use Rattle.std.specs.Prelude.{if◌then◌else◌}
 use mathlib.Core.Path.{◌≡◌, refl, sym, ap, ◌∙◌, subst⁻¹}
 use mathlib.Core.Logic.{◌⊎◌, inl, inr}
 use Prim.Native.Nat.{ℕ}
@@ -7,7 +8,7 @@ use native.Mathlib.Omega.{arith}
 use mathlib.Core.List.{◌++◌, append_cancel_left}
 use mathlib.Core.Bool.{Bool, true, false}
 use mathlib.Core.Option.{Option, none, some, map}
-use Rattle.names.specs.Bytes.{Bytes, if◌then◌else◌, strip}
+use Rattle.names.specs.Bytes.{Bytes, strip}
 use Rattle.names.specs.Name.{fits, under_refs, remote_head}
 use Rattle.names.specs.Category.{is_private}
 use Rattle.names.specs.Candidates.{Candidate}

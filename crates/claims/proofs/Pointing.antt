@@ -9,7 +9,7 @@ use Rattle.names.specs.Bytes.{Bytes, same, strip}
 use Rattle.names.specs.Name.{fits}
 use Rattle.names.specs.Candidates.{Candidate, candidates}
 use Rattle.names.specs.Route.{packed_name}
-use Rattle.names.proofs.Tests.{if-case, or_eq, false_of, none≢some}
+use Rattle.names.proofs.Tests.{if_case, or_eq, false_of, none≢some}
 use Rattle.names.proofs.Orders.{same_eq}
 use Rattle.blocks.specs.Content.{object, symbolic, Reading, reads, unreadable, read}
 use Rattle.blocks.specs.Entry.{Entry, damaged, failed, loose, unread, packed_record}
@@ -66,7 +66,7 @@ module _ (width : ℕ) (e : Bytes) (s : Store) where
     honest_lookup : (k : Candidate) → Honest (lookup width e s k)
     honest_lookup k =
         rw (lookup_is width e s k, entry_is e s k)
-        (if-case Honest (fits k.name)
+        (if_case Honest (fits k.name)
         (λ _. honest_deciding k.name (clashes (path_of e k.name) (region_of s k.name)) (file_of e s k.name) (record_of e s k.packed (packed_name k.name)) refl (record_is k.packed (packed_name k.name)))
         (λ _. tt))
 

@@ -1,11 +1,12 @@
 -- One region as a table, and what waits in it.
+use Rattle.std.specs.Prelude.{if◌then◌else◌}
 use mathlib.Core.Path.{◌≡◌, refl, ap, ◌∙◌, subst, fun_ext}
 use mathlib.Core.List.{List, [], ◌∷◌}
 use mathlib.Core.Option.{Option, none, some}
 use Prim.Native.Nat.{ℕ, zero, suc, Ordering}
 use lib.ListN.{drop}
 use lib.Dec.{compare_is_eq}
-use Rattle.names.specs.Bytes.{Bytes, if◌then◌else◌, order}
+use Rattle.names.specs.Bytes.{Bytes, order}
 use Rattle.names.proofs.Orders.{flip, ◌≺◌, order_refl, order_flip, eq_not_lt, gt_not_lt}
 use Rattle.blocks.specs.Entry.{Entry, name_of}
 use Rattle.blocks.proofs.Sorted.{Sorted, sorted-[], sorted-∷, sorted_drop}

@@ -1,7 +1,7 @@
 -- Demand 3: two snapshots compared, in the words of document 01's section of that name.
-use Rattle.std.specs.Prelude.{◌≡◌, ◌⊎◌, ℕ, List, [], ◌∷◌, Bool, true, false, ◌&&◌, ◌||◌, eqb, take}
+use Rattle.std.specs.Prelude.{◌≡◌, ◌⊎◌, ℕ, List, [], ◌∷◌, Bool, true, false, ◌&&◌, ◌||◌, eqb, take, if◌then◌else◌}
 use Rattle.std.proofs.Math.Option.{Option, none}
-use Rattle.names.specs.Bytes.{Bytes, if◌then◌else◌, same}
+use Rattle.names.specs.Bytes.{Bytes, same}
 use Rattle.names.specs.Name.{under_refs, directory, remote_head}
 use Rattle.names.specs.WellFormed.{well_formed}
 use Rattle.names.specs.Category.{is_private}

@@ -1,4 +1,5 @@
 -- The first slash, and what a category takes off a name.
+use Rattle.std.specs.Prelude.{if◌then◌else◌}
 use mathlib.Core.Path.{◌≡◌, refl, ◌∙◌}
 use Prim.Native.Nat.{ℕ, suc, ◌+◌, ◌≤◌, ◌<◌}
 use native.Mathlib.Numerals.{add-one}
@@ -10,10 +11,10 @@ use lib.Dec.{eqb, lit≤}
 use lib.ListN.{length, drop, get_or, drop_of_length-le, length-drop}
 use lib.Seq.{drop-cons}
 use borrow.Author.Tests.{eq-eqb, ne_eqb}
-use Rattle.names.specs.Bytes.{Bytes, bytes, slash, if◌then◌else◌, starts_with, after}
+use Rattle.names.specs.Bytes.{Bytes, bytes, slash, starts_with, after}
 use Rattle.names.specs.Name.{is_pseudo}
 use Rattle.names.specs.Category.{Category, Tag, LocalBranch, RemoteBranch, Note, Bisect, WorktreePrivate, Rewritten, PseudoRef, MainPseudoRef, MainRef, Class, prefix, classify_below, first_slash, classify_linked, without_prefix, without_refs, classify, off_in, short_name}
-use Rattle.names.proofs.Tests.{if-case, none≢some}
+use Rattle.names.proofs.Tests.{if_case, none≢some}
 use Rattle.names.proofs.Prefix.{starts_length}
 
 -- ---- the tests of a category, in their order
@@ -106,8 +107,8 @@ slash_in (b ∷ s) i e = go (eqb b slash) e (first_slash s) refl (slash_in s)
 off_below : (s : Bytes) (ref pseudo : Category) (off : ℕ) (rest : Bytes) → off ≤ length s → off_in (classify_below ref pseudo off rest) ≤ length s
 unfolding classify_below
 off_below s ref pseudo off rest h =
-    if-case (λ (o : Option Class). off_in o ≤ length s) (starts_with (bytes "refs/") rest) (λ _. h)
-    (λ _. if-case (λ (o : Option Class). off_in o ≤ length s) (is_pseudo rest) (λ _. h) (λ _. omega arith))
+    if_case (λ (o : Option Class). off_in o ≤ length s) (starts_with (bytes "refs/") rest) (λ _. h)
+    (λ _. if_case (λ (o : Option Class). off_in o ≤ length s) (is_pseudo rest) (λ _. h) (λ _. omega arith))
 
 off_linked : (s : Bytes) → 10 ≤ length s → (o : Option ℕ) → first_slash (drop 10 s) ≡ o → off_in (classify_linked (drop 10 s) o) ≤ length s
 unfolding classify_linked
@@ -116,7 +117,7 @@ off_linked s h (some i) e = off_below s _ _ _ _ (omega (arith, rw length-drop at
 
 -- a test that is met by a beginning
 off_of : (s p : Bytes) (a b : Option Class) → off_in a ≤ length p → off_in b ≤ length s → off_in (if starts_with p s then a else b) ≤ length s
-off_of s p a b h k = if-case (λ (o : Option Class). off_in o ≤ length s) (starts_with p s) (λ t. omega (arith, starts_length p s t)) (λ _. k)
+off_of s p a b h k = if_case (λ (o : Option Class). off_in o ≤ length s) (starts_with p s) (λ t. omega (arith, starts_length p s t)) (λ _. k)
 
 -- a short name is no longer than the name
 pub short_length : (s : Bytes) → length (short_name s) ≤ length s
@@ -133,9 +134,9 @@ off_within s =
     (off_of s (prefix Bisect) _ _ (lit≤ tt)
     (off_of s (prefix WorktreePrivate) _ _ (lit≤ tt)
     (off_of s (prefix Rewritten) _ _ (lit≤ tt)
-    (if-case P (is_pseudo s) (λ _. omega arith) (λ _.
-    if-case P (starts_with (bytes "main-worktree/") s) (λ t. off_below s _ _ _ _ (starts_length (bytes "main-worktree/") s t)) (λ _.
-    if-case P (starts_with (bytes "worktrees/") s) (λ t. off_linked s (starts_length (bytes "worktrees/") s t) _ refl) (λ _. omega arith))))))))))
+    (if_case P (is_pseudo s) (λ _. omega arith) (λ _.
+    if_case P (starts_with (bytes "main-worktree/") s) (λ t. off_below s _ _ _ _ (starts_length (bytes "main-worktree/") s t)) (λ _.
+    if_case P (starts_with (bytes "worktrees/") s) (λ t. off_linked s (starts_length (bytes "worktrees/") s t) _ refl) (λ _. omega arith))))))))))
   where
     P : Option Class → Type 0
     P o = off_in o ≤ length s

@@ -1,4 +1,5 @@
 -- The expansion of a namespace, component by component.
+use Rattle.std.specs.Prelude.{if◌then◌else◌}
 use mathlib.Core.Path.{◌≡◌, refl, ap, ◌∙◌}
 use Prim.Native.Nat.{ℕ, zero, suc, ◌+◌, ◌*◌, ◌-◌, ◌≤◌, ◌<◌}
 use native.Mathlib.Nat.{not-suc-le-zero, le_of_suc-le-suc}
@@ -11,7 +12,7 @@ use lib.Dec.{leb, eqb}
 use lib.ListN.{length, take, drop, get_or, length-append, length-drop, drop_of_length-le}
 use lib.Seq.{drop-cons}
 use borrow.Author.Tests.{leb-true, leb-false, le-leb, lt-leb}
-use Rattle.names.specs.Bytes.{Bytes, bytes, slash, if◌then◌else◌}
+use Rattle.names.specs.Bytes.{Bytes, bytes, slash}
 use Rattle.names.specs.Category.{first_slash}
 use Rattle.names.specs.Means.{held, filled, if_fits, slash_found}
 use Rattle.names.specs.Name.{longest, fits}

@@ -1,4 +1,5 @@
 -- Names that were made, where the bytes fit.
+use Rattle.std.specs.Prelude.{if◌then◌else◌}
 use mathlib.Core.Path.{◌≡◌, refl, ap, sym, ◌∙◌}
 use Prim.Native.Nat.{ℕ, ◌+◌, ◌-◌, ◌≤◌, ◌<◌}
 use native.Mathlib.Omega.{arith}
@@ -9,7 +10,7 @@ use lib.ListN.{length, take, length-append, length-take}
 use lib.Seq.{take_all}
 use borrow.Author.Tests.{leb-true, leb-false, le-leb, lt-leb}
 use lib.Dec.{leb}
-use Rattle.names.specs.Bytes.{Bytes, if◌then◌else◌}
+use Rattle.names.specs.Bytes.{Bytes}
 use Rattle.names.specs.Name.{longest, fits}
 use Rattle.names.specs.Check.{Check, checked}
 use Rattle.names.specs.Candidates.{full_name}

@@ -1,9 +1,10 @@
 -- The candidates of a name, pass by pass.
+use Rattle.std.specs.Prelude.{if◌then◌else◌}
 use mathlib.Core.Path.{◌≡◌, refl}
 use mathlib.Core.List.{[], ◌∷◌, ◌++◌}
 use mathlib.Core.Bool.{Bool, true, false}
 use lib.ListN.{take}
-use Rattle.names.specs.Bytes.{Bytes, bytes, if◌then◌else◌, same}
+use Rattle.names.specs.Bytes.{Bytes, bytes, same}
 use Rattle.names.specs.Name.{is_pseudo}
 use Rattle.names.specs.Candidates.{full_name, pass, passes, last_candidate, sought_packed, candidates}
 

@@ -1,4 +1,5 @@
 -- Where a name is read, loose and packed: the six ways, and what follows for shared names under refs/.
+use Rattle.std.specs.Prelude.{if◌then◌else◌}
 use mathlib.Core.Path.{◌≡◌, refl, ap}
 use Prim.Native.Nat.{ℕ, ◌+◌}
 use mathlib.Core.List.{[], ◌∷◌, ◌++◌}
@@ -7,7 +8,7 @@ use mathlib.Core.Option.{Option, none, some}
 use mathlib.Core.Logic.{◌⊎◌, inl, inr}
 use lib.Dec.{eqb}
 use lib.ListN.{take, drop}
-use Rattle.names.specs.Bytes.{Bytes, bytes, if◌then◌else◌, starts_with, every}
+use Rattle.names.specs.Bytes.{Bytes, bytes, starts_with, every}
 use Rattle.names.specs.Name.{is_pseudo, under_refs}
 use Rattle.names.specs.Category.{Category, Tag, LocalBranch, RemoteBranch, Note, Bisect, PseudoRef, MainPseudoRef, MainRef, LinkedRef, LinkedPseudoRef, WorktreePrivate, Rewritten, Class, first_slash, classify_below, classify_linked, classify, category_in, off_in, category, short_name, private_category, is_private}
 use Rattle.names.specs.Namespace.{expand}
@@ -16,7 +17,7 @@ use Rattle.names.specs.Means.{category_with, class_of}
 use Rattle.names.specs.declared.fullname.Category as code-category
 use Rattle.names.specs.declared.fullname.Class as code
 use Rattle.names.specs.declared.fullname.Class.TheVariants.{As, Unclassified}
-use Rattle.names.proofs.Tests.{if-case, false_of, not_both, and_left}
+use Rattle.names.proofs.Tests.{if_case, false_of, not_both, and_left}
 use Rattle.names.proofs.Prefix.{other_start}
 
 -- the name begins with the byte r: it is not below main-worktree/ or worktrees/
@@ -51,27 +52,27 @@ FactsOf c o = Facts (category_in o) c (drop (off_in o) c)
 facts_main : (c : Bytes) → begins_r c ≡ false → FactsOf c (classify_below MainRef MainPseudoRef 14 (drop 14 c))
 unfolding classify_below
 facts_main c h =
-    if-case (FactsOf c) (under_refs (drop 14 c)) (λ _. h) (λ u. if-case (FactsOf c) (is_pseudo (drop 14 c)) (λ _. (h, u)) (λ _. tt))
+    if_case (FactsOf c) (under_refs (drop 14 c)) (λ _. h) (λ u. if_case (FactsOf c) (is_pseudo (drop 14 c)) (λ _. (h, u)) (λ _. tt))
 
 facts_linked : (c : Bytes) → begins_r c ≡ false → (i : Option ℕ) → FactsOf c (classify_linked (drop 10 c) i)
 unfolding classify_below classify_linked
 facts_linked c h none = tt
 facts_linked c h (some i) =
-    if-case (FactsOf c) (under_refs (drop (i + 1) (drop 10 c))) (λ _. h) (λ _. if-case (FactsOf c) (is_pseudo (drop (i + 1) (drop 10 c))) (λ _. h) (λ _. tt))
+    if_case (FactsOf c) (under_refs (drop (i + 1) (drop 10 c))) (λ _. h) (λ _. if_case (FactsOf c) (is_pseudo (drop (i + 1) (drop 10 c))) (λ _. h) (λ _. tt))
 
 facts_class : (c : Bytes) → FactsOf c (classify c)
 unfolding classify
 facts_class c =
-    if-case F (starts_with (bytes "refs/tags/") c) (λ _. tt) (λ _.
-    if-case F (starts_with (bytes "refs/heads/") c) (λ _. tt) (λ _.
-    if-case F (starts_with (bytes "refs/remotes/") c) (λ _. tt) (λ _.
-    if-case F (starts_with (bytes "refs/notes/") c) (λ _. tt) (λ _.
-    if-case F (starts_with (bytes "refs/bisect/") c) (λ _. tt) (λ _.
-    if-case F (starts_with (bytes "refs/worktree/") c) (λ _. tt) (λ _.
-    if-case F (starts_with (bytes "refs/rewritten/") c) (λ _. tt) (λ _.
-    if-case F (is_pseudo c) (λ _. tt) (λ _.
-    if-case F (starts_with (bytes "main-worktree/") c) (λ h. facts_main c (other_start 109 114 _ _ c refl h)) (λ _.
-    if-case F (starts_with (bytes "worktrees/") c) (λ h. facts_linked c (other_start 119 114 _ _ c refl h) (first_slash (drop 10 c))) (λ _.
+    if_case F (starts_with (bytes "refs/tags/") c) (λ _. tt) (λ _.
+    if_case F (starts_with (bytes "refs/heads/") c) (λ _. tt) (λ _.
+    if_case F (starts_with (bytes "refs/remotes/") c) (λ _. tt) (λ _.
+    if_case F (starts_with (bytes "refs/notes/") c) (λ _. tt) (λ _.
+    if_case F (starts_with (bytes "refs/bisect/") c) (λ _. tt) (λ _.
+    if_case F (starts_with (bytes "refs/worktree/") c) (λ _. tt) (λ _.
+    if_case F (starts_with (bytes "refs/rewritten/") c) (λ _. tt) (λ _.
+    if_case F (is_pseudo c) (λ _. tt) (λ _.
+    if_case F (starts_with (bytes "main-worktree/") c) (λ h. facts_main c (other_start 109 114 _ _ c refl h)) (λ _.
+    if_case F (starts_with (bytes "worktrees/") c) (λ h. facts_linked c (other_start 119 114 _ _ c refl h) (first_slash (drop 10 c))) (λ _.
     tt))))))))))
   where
     F : Option Class → Type 0

@@ -8,7 +8,7 @@ use Rattle.names.specs.Bytes.{Bytes, bytes, starts_with, after}
 use Rattle.names.specs.Name.{is_pseudo}
 use Rattle.names.specs.Category.{Category, Tag, LocalBranch, RemoteBranch, Note, Bisect, PseudoRef, MainPseudoRef, MainRef, LinkedRef, LinkedPseudoRef, WorktreePrivate, Rewritten, Class, prefix, first_slash, classify_below, classify_linked, classify, category_in, off_in, category, short_name}
 use Rattle.names.specs.Route.{packed_as, packed_name}
-use Rattle.names.proofs.Tests.{if-case}
+use Rattle.names.proofs.Tests.{if_case}
 
 -- the name begins with the category's prefix, and the short name is all of it but `refs/`
 abbrev pub KeepsWord : Category → Bytes → Bytes → Type 0
@@ -34,27 +34,27 @@ KeptBy n o = Kept (category_in o) n (drop (off_in o) n)
 
 kept_main : (n rest : Bytes) → KeptBy n (classify_below MainRef MainPseudoRef 14 rest)
 unfolding classify_below
-kept_main n rest = if-case (KeptBy n) (starts_with (bytes "refs/") rest) (λ _. tt) (λ _. if-case (KeptBy n) (is_pseudo rest) (λ _. tt) (λ _. tt))
+kept_main n rest = if_case (KeptBy n) (starts_with (bytes "refs/") rest) (λ _. tt) (λ _. if_case (KeptBy n) (is_pseudo rest) (λ _. tt) (λ _. tt))
 
 kept_linked : (n rest : Bytes) (i : Option ℕ) → KeptBy n (classify_linked rest i)
 unfolding classify_below classify_linked
 kept_linked n rest none = tt
 kept_linked n rest (some i) =
-    if-case (KeptBy n) (starts_with (bytes "refs/") (drop (i + 1) rest)) (λ _. tt) (λ _. if-case (KeptBy n) (is_pseudo (drop (i + 1) rest)) (λ _. tt) (λ _. tt))
+    if_case (KeptBy n) (starts_with (bytes "refs/") (drop (i + 1) rest)) (λ _. tt) (λ _. if_case (KeptBy n) (is_pseudo (drop (i + 1) rest)) (λ _. tt) (λ _. tt))
 
 kept_class : (n : Bytes) → KeptBy n (classify n)
 unfolding classify
 kept_class n =
-    if-case K (starts_with (prefix Tag) n) (λ _. tt) (λ _.
-    if-case K (starts_with (prefix LocalBranch) n) (λ _. tt) (λ _.
-    if-case K (starts_with (prefix RemoteBranch) n) (λ _. tt) (λ _.
-    if-case K (starts_with (prefix Note) n) (λ h. (h, refl)) (λ _.
-    if-case K (starts_with (prefix Bisect) n) (λ h. (h, refl)) (λ _.
-    if-case K (starts_with (prefix WorktreePrivate) n) (λ h. (h, refl)) (λ _.
-    if-case K (starts_with (prefix Rewritten) n) (λ h. (h, refl)) (λ _.
-    if-case K (is_pseudo n) (λ _. tt) (λ _.
-    if-case K (starts_with (bytes "main-worktree/") n) (λ _. kept_main n (drop 14 n)) (λ _.
-    if-case K (starts_with (bytes "worktrees/") n) (λ _. kept_linked n (drop 10 n) (first_slash (drop 10 n))) (λ _.
+    if_case K (starts_with (prefix Tag) n) (λ _. tt) (λ _.
+    if_case K (starts_with (prefix LocalBranch) n) (λ _. tt) (λ _.
+    if_case K (starts_with (prefix RemoteBranch) n) (λ _. tt) (λ _.
+    if_case K (starts_with (prefix Note) n) (λ h. (h, refl)) (λ _.
+    if_case K (starts_with (prefix Bisect) n) (λ h. (h, refl)) (λ _.
+    if_case K (starts_with (prefix WorktreePrivate) n) (λ h. (h, refl)) (λ _.
+    if_case K (starts_with (prefix Rewritten) n) (λ h. (h, refl)) (λ _.
+    if_case K (is_pseudo n) (λ _. tt) (λ _.
+    if_case K (starts_with (bytes "main-worktree/") n) (λ _. kept_main n (drop 14 n)) (λ _.
+    if_case K (starts_with (bytes "worktrees/") n) (λ _. kept_linked n (drop 10 n) (first_slash (drop 10 n))) (λ _.
     tt))))))))))
   where
     K : Option Class → Type 0

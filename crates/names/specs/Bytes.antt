@@ -2,10 +2,9 @@
 use Prim.Native.Nat.{ℕ, Ordering, compare}
 use Prim.Native.Char.{code}
 use Prim.Native.String.{String}
-use Rattle.std.specs.Prelude.{List, [], ◌∷◌, Bool, true, false, ◌&&◌, ◌||◌, eqb, length, drop}
+use Rattle.std.specs.Prelude.{List, [], ◌∷◌, Bool, true, false, ◌&&◌, ◌||◌, eqb, length, drop, if◌then◌else◌}
 use Rattle.std.proofs.Math.Dec.{compare_is_eq}
 
-infix 5 if◌then◌else◌
 -- a name, a content, an id, a block or a region
 abbrev pub Bytes : Type 0
 Bytes = List ℕ
@@ -18,11 +17,6 @@ bytes (String.◌∷◌ c s) = code c ∷ bytes s
 -- a slash
 abbrev pub slash : ℕ
 slash = 47
-
--- the first where the test holds, else the second
-abbrev pub if◌then◌else◌ {ℓ} : {A : Type ℓ} → Bool → A → A → A
-if true then x else y = x
-if false then x else y = y
 
 -- the first comparison that tells
 abbrev pub first_told : Ordering → Ordering → Ordering

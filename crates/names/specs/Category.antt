@@ -1,7 +1,7 @@
 -- Categories and short names (fullname.rs, name.rs).
-use Rattle.std.specs.Prelude.{ℕ, suc, ◌+◌, [], ◌∷◌, ◌++◌, Bool, true, false, ◌&&◌, eqb, length, take, drop}
+use Rattle.std.specs.Prelude.{ℕ, suc, ◌+◌, [], ◌∷◌, ◌++◌, Bool, true, false, ◌&&◌, eqb, length, take, drop, if◌then◌else◌}
 use Rattle.std.proofs.Math.Option.{Option, none, some, map}
-use Rattle.names.specs.Bytes.{Bytes, bytes, slash, if◌then◌else◌, starts_with, after, strip}
+use Rattle.names.specs.Bytes.{Bytes, bytes, slash, starts_with, after, strip}
 use Rattle.names.specs.Check.{unless, ◌or_else◌, Checked, checked}
 use Rattle.names.specs.Name.{fits, is_pseudo}
 use Rattle.names.specs.WellFormed.{complete}

@@ -1,8 +1,8 @@
 -- What the code's types mean.
 use Prim.Native.Nat.{ℕ, Ordering}
 use Rattle.std.proofs.Math.Option.{Option, none, some}
-use Rattle.std.specs.Prelude.{take, drop}
-use Rattle.names.specs.Bytes.{Bytes, bytes, if◌then◌else◌, after}
+use Rattle.std.specs.Prelude.{take, drop, if◌then◌else◌}
+use Rattle.names.specs.Bytes.{Bytes, bytes, after}
 use Rattle.names.specs.Check.{Check, unless, ◌or_else◌, Checked, checked}
 use Rattle.names.specs.Name.{fits}
 use Rattle.names.specs.WellFormed.{complete}

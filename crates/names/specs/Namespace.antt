@@ -1,7 +1,7 @@
 -- Namespaces (namespace.rs).
-use Rattle.std.specs.Prelude.{[], ◌∷◌, ◌++◌, Bool, true, ◌&&◌, eqb}
+use Rattle.std.specs.Prelude.{[], ◌∷◌, ◌++◌, Bool, true, ◌&&◌, eqb, if◌then◌else◌}
 use Rattle.std.proofs.Math.Option.{Option, none, some}
-use Rattle.names.specs.Bytes.{Bytes, bytes, slash, if◌then◌else◌}
+use Rattle.names.specs.Bytes.{Bytes, bytes, slash}
 use Rattle.names.specs.Check.{Check, unless, ◌or_else◌, Checked, checked}
 use Rattle.names.specs.Name.{fits}
 use Rattle.names.specs.WellFormed.{well_formed}

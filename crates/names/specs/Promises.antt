@@ -1,7 +1,7 @@
 -- What private functions promise: the rules of a well-formed name, byte by byte; a component of a name; the width of a
 -- byte in an expansion; and bytes that two names share.
-use Rattle.std.specs.Prelude.{ℕ, zero, suc, ◌+◌, [], ◌∷◌, Bool, true, ◌&&◌, ◌||◌, not, eqb, leb, length, get_or}
-use Rattle.names.specs.Bytes.{Bytes, bytes, slash, if◌then◌else◌, same, starts_with, ends_with, contains, every}
+use Rattle.std.specs.Prelude.{ℕ, zero, suc, ◌+◌, [], ◌∷◌, Bool, true, ◌&&◌, ◌||◌, not, eqb, leb, length, get_or, if◌then◌else◌}
+use Rattle.names.specs.Bytes.{Bytes, bytes, slash, same, starts_with, ends_with, contains, every}
 use Rattle.names.specs.WellFormed.{allowed}
 
 -- all rules but "not empty" and "not `@` alone", of what stands behind the byte p

@@ -1,10 +1,11 @@
 -- Search, following and the listing, clause by clause, for the crates above.
+use Rattle.std.specs.Prelude.{if◌then◌else◌}
 use mathlib.Core.Path.{◌≡◌, refl}
 use Prim.Native.Nat.{ℕ, suc}
 use mathlib.Core.List.{List, [], ◌∷◌}
 use mathlib.Core.Bool.{false, ◌||◌}
 use mathlib.Core.Option.{Option, none, some}
-use Rattle.names.specs.Bytes.{Bytes, if◌then◌else◌, same}
+use Rattle.names.specs.Bytes.{Bytes, same}
 use Rattle.names.specs.Name.{fits}
 use Rattle.names.specs.Check.{◌or_else◌, checked}
 use Rattle.names.specs.Candidates.{Candidate, candidates}

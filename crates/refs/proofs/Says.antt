@@ -1,4 +1,5 @@
 -- What the entry of a block answers, from its kind with name and content beside it.
+use Rattle.std.specs.Prelude.{if◌then◌else◌}
 use mathlib.Core.Path.{◌≡◌, refl, sym, ◌∙◌}
 use Prim.Native.Nat.{ℕ, ◌≤◌}
 use native.Mathlib.Omega.{arith}
@@ -6,7 +7,7 @@ use mathlib.Core.Bool.{Bool, true, false}
 use mathlib.Core.Option.{Option, none, some}
 use lib.ListN.{length, take, drop}
 use lib.Seq.{take_all}
-use Rattle.names.specs.Bytes.{Bytes, if◌then◌else◌, strip}
+use Rattle.names.specs.Bytes.{Bytes, strip}
 use Rattle.names.specs.Means.{held}
 use Rattle.names.proofs.Prefix.{strip_length}
 use Rattle.names.specs.Name.{longest}

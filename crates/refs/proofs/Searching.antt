@@ -1,10 +1,11 @@
 -- The candidates one after the other.
+use Rattle.std.specs.Prelude.{if◌then◌else◌}
 use mathlib.Core.Path.{◌≡◌, refl, sym, ap, ◌∙◌}
 use Prim.Native.Nat.{ℕ, zero, suc, ◌+◌, ◌≤◌, ◌<◌}
 use native.Mathlib.Omega.{arith}
 use mathlib.Core.List.{List, [], ◌∷◌, ◌++◌}
 use mathlib.Core.Bool.{Bool, true, false, true≢false, false≢true}
-use Rattle.names.specs.Bytes.{Bytes, bytes, if◌then◌else◌, same}
+use Rattle.names.specs.Bytes.{Bytes, bytes, same}
 use Rattle.names.specs.Name.{is_pseudo}
 use lib.ListN.{take, drop}
 use Rattle.names.specs.Candidates.{Candidate, full_name, pass, passes, last_candidate, sought_packed}

@@ -1,7 +1,7 @@
 -- Following (raw_ext.rs `follow_to_object_packed`).
-use Rattle.std.specs.Prelude.{ℕ, zero, suc, List, [], ◌∷◌, Bool, false, ◌||◌}
+use Rattle.std.specs.Prelude.{ℕ, zero, suc, List, [], ◌∷◌, Bool, false, ◌||◌, if◌then◌else◌}
 use Rattle.std.proofs.Math.Option.{Option}
-use Rattle.names.specs.Bytes.{Bytes, if◌then◌else◌, same}
+use Rattle.names.specs.Bytes.{Bytes, same}
 use Rattle.names.specs.Namespace.{expansion}
 use Rattle.blocks.specs.Content.{Target, object, symbolic}
 use Rattle.blocks.specs.Snapshot.{Snapshot, Store, store, store_flaw}

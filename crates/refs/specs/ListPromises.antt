@@ -1,9 +1,9 @@
 -- What the private functions of the listing promise. Nobody has to believe these: the promises of the public functions do
 -- not speak of them.
-use Rattle.std.specs.Prelude.{◌≡◌, Bool, true, false}
+use Rattle.std.specs.Prelude.{◌≡◌, Bool, true, false, if◌then◌else◌}
 use Rattle.std.proofs.Math.Option.{Option, none, some}
 use Prim.Native.Nat.{ℕ, Ordering}
-use Rattle.names.specs.Bytes.{Bytes, if◌then◌else◌}
+use Rattle.names.specs.Bytes.{Bytes}
 use Rattle.blocks.specs.Block.{Region}
 use Rattle.blocks.specs.Entry.{Entry, entries}
 use Rattle.blocks.specs.Means.{id_width, name_in, as_entry, entry_in, region_of}

@@ -1,7 +1,7 @@
 -- What the code's types mean: for each answer the paper's number and values.
-use Rattle.std.specs.Prelude.{◌≡◌, Bool, true, false, [], ℕ, drop}
+use Rattle.std.specs.Prelude.{◌≡◌, Bool, true, false, [], ℕ, drop, if◌then◌else◌}
 use Rattle.std.proofs.Math.Option.{Option, none, some}
-use Rattle.names.specs.Bytes.{Bytes, if◌then◌else◌, strip}
+use Rattle.names.specs.Bytes.{Bytes, strip}
 use Rattle.names.specs.Means.{content, number}
 use Rattle.names.specs.Check.{Check, Checked, checked}
 use Rattle.blocks.specs.Content.{Target, object, symbolic}

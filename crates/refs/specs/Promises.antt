@@ -1,8 +1,8 @@
 -- What the private functions of search and following promise. Nobody has to believe these: the promises of the public
 -- functions do not speak of them.
-use Rattle.std.specs.Prelude.{◌≡◌, List, [], ◌∷◌, Bool, true, false, ℕ, ◌<◌, eqb, take, drop}
+use Rattle.std.specs.Prelude.{◌≡◌, List, [], ◌∷◌, Bool, true, false, ℕ, ◌<◌, eqb, take, drop, if◌then◌else◌}
 use Rattle.std.proofs.Math.Option.{Option, none, some}
-use Rattle.names.specs.Bytes.{Bytes, bytes, if◌then◌else◌}
+use Rattle.names.specs.Bytes.{Bytes, bytes}
 use Rattle.names.specs.Means.{held, content, filled, if_fits, number}
 use Rattle.names.specs.declared.name.Filled.{Filled}
 use Rattle.names.specs.declared.name.Filled.TheVariants as fill

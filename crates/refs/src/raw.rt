@@ -1,6 +1,6 @@
 // References and what an entry answers (raw.rs).
-ghost use Rattle.std.specs.Prelude.{◌≡◌, ◌≤◌, length};
-ghost use Rattle.names.specs.Bytes.{Bytes, if◌then◌else◌};
+ghost use Rattle.std.specs.Prelude.{◌≡◌, ◌≤◌, length, if◌then◌else◌};
+ghost use Rattle.names.specs.Bytes.{Bytes};
 ghost use Rattle.names.specs.Name.{longest};
 ghost use Rattle.blocks.specs.Layout.{longest_content};
 ghost use Rattle.blocks.specs.Content.{read};

@@ -1,4 +1,5 @@
 -- Numbers, digit by digit.
+use Rattle.std.specs.Prelude.{if◌then◌else◌}
 use mathlib.Core.Path.{◌≡◌, refl, sym}
 use mathlib.Core.Bool.{Bool, true, false, ◌&&◌}
 use mathlib.Core.List.{[], ◌∷◌}
@@ -10,7 +11,7 @@ use native.Mathlib.Numerals.{add-one}
 use lib.Dec.{leb}
 use lib.ListN.{length, drop, get_or, drop_of_length-le}
 use lib.Seq.{drop-cons}
-use Rattle.names.specs.Bytes.{Bytes, if◌then◌else◌, every}
+use Rattle.names.specs.Bytes.{Bytes, every}
 use Rattle.names.proofs.Walks.{every_none, every_more}
 use Rattle.replay.specs.Input.{largest, is_decimal, digits_behind, number_behind, read_in}
 use Rattle.replay.specs.declared.input.Number.{Number}

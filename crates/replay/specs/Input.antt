@@ -1,7 +1,7 @@
 -- Byte strings and numbers, as a field of the vector format writes them.
-use Rattle.std.specs.Prelude.{ℕ, ◌+◌, ◌*◌, ◌-◌, ◌%◌, ◌^◌, ◌≡◌, [], ◌∷◌, Bool, false, ◌&&◌, ◌||◌, not, leb, eqb, length, take}
+use Rattle.std.specs.Prelude.{ℕ, ◌+◌, ◌*◌, ◌-◌, ◌%◌, ◌^◌, ◌≡◌, [], ◌∷◌, Bool, false, ◌&&◌, ◌||◌, not, leb, eqb, length, take, if◌then◌else◌}
 use Rattle.std.proofs.Math.Option.{Option, none, some}
-use Rattle.names.specs.Bytes.{Bytes, bytes, if◌then◌else◌, same, every}
+use Rattle.names.specs.Bytes.{Bytes, bytes, same, every}
 use Rattle.replay.specs.declared.input.Given.{Given}
 use Rattle.replay.specs.declared.input.Number.{Number}
 

@@ -1,4 +1,5 @@
 -- Decimal digits by division are those that counting up gives.
+use Rattle.std.specs.Prelude.{if◌then◌else◌}
 use mathlib.Core.Path.{◌≡◌, refl, ap, sym, ◌∙◌}
 use Prim.Native.Nat.{ℕ, zero, suc, ◌+◌, ◌-◌, ◌*◌, ◌/◌, ◌%◌, ◌^◌, ◌≤◌, ◌<◌}
 use mathlib.Core.Bool.{Bool, true, false}
@@ -10,7 +11,7 @@ use borrow.Author.Tests.{leb-true, leb-false, eqb-true, eqb-false, eq-eqb, ne_eq
 use lib.Dec.{eqb, leb}
 use lib.ListN.{length, length-append}
 use Rattle.io.specs.Digits.{hex_digit_ascii, last_digits, IsDigitCount}
-use Rattle.names.specs.Bytes.{Bytes, if◌then◌else◌}
+use Rattle.names.specs.Bytes.{Bytes}
 use Rattle.text.specs.Text.{zero_digit, nine_digit, one_more, numeral, decimal}
 
 -- the last k digits of n, the last one in front

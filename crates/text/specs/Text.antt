@@ -1,6 +1,6 @@
 -- Tabs, line ends and numbers as text.
-use Rattle.std.specs.Prelude.{ℕ, zero, suc, [], ◌∷◌, reverse, eqb}
-use Rattle.names.specs.Bytes.{Bytes, bytes, if◌then◌else◌}
+use Rattle.std.specs.Prelude.{ℕ, zero, suc, [], ◌∷◌, reverse, eqb, if◌then◌else◌}
+use Rattle.names.specs.Bytes.{Bytes, bytes}
 
 abbrev pub tab : Bytes
 tab = 9 ∷ []

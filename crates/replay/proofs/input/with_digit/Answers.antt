@@ -22,9 +22,9 @@ pub returns-in_default : goal.returns-in_default
 returns-in_default c =
     let a = c.args in
     let e : is_decimal a.b ≡ false =
-        elim c.in_default.branch [
-          in_default-via-then-b-lt48 w ↦ decimal_below a.b (omega arith)
-          | in_default-via-else-b-lt48+else-b-lt58 w ↦ decimal_above a.b (omega arith)
-        ]
+    elim c.in_default.branch [
+      | in_default-via-then-b-lt48 w ↦ decimal_below a.b (omega arith)
+      | in_default-via-else-b-lt48+else-b-lt58 w ↦ decimal_above a.b (omega arith)
+    ]
     in
     c.no_number-in_default.ensures ∙ sym (no_digit a.value a.b [] e)
