@@ -1,11 +1,11 @@
 // Questions by the number of their fields: the first is the word, the others what is asked about.
+use crate::answers::{Pending, put_unknown};
 use crate::block::ask_block;
 use crate::input::{
     MOST, count_fields, first_field, fourth_field, read_bytes, read_number, read_optional,
     second_field, third_field,
 };
 use crate::listing::{ask_listing, ask_step};
-use crate::output::{Pending, put_unknown};
 use crate::search::{ask_fitness, ask_following, ask_search};
 use crate::set::Kept;
 use crate::text::{ask_full_name, ask_of_one, ask_of_two};

@@ -1,5 +1,5 @@
 // What a block holds.
-use crate::output::{Pending, put, put_bytes, put_id, put_peeled, put_unknown};
+use crate::answers::{Pending, put, put_bytes, put_id, put_peeled, put_unknown};
 use blocks::block::{BLOCK_SIZE, EntryKind, Region, block_content, block_name, entry_kind};
 use blocks::parse::{id_of, second_id_of};
 

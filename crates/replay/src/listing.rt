@@ -1,5 +1,5 @@
 // The listing.
-use crate::output::{Pending, put, put_number, put_refused, put_refused_line};
+use crate::answers::{Pending, put, put_number, put_refused, put_refused_line};
 use crate::search::put_reference;
 use crate::set::Kept;
 use names::name::{Name, Verdict, empty, refusal_number};
@@ -65,12 +65,10 @@ fn put_steps<'a>(
 ) -> usize {
     let mut at = state;
     let mut end = n;
-    let mut left = count;
-    while left > 0 {
+    for _ in 0..count {
         let m = put_step(kept, worktree, common, packed, at, out, end);
         at = m.state;
         end = m.n;
-        left -= 1;
     }
     end
 }

@@ -2,18 +2,18 @@
 // function of names, blocks or refs gives.
 #![tactic(auto)]
 
+mod answers;
 mod ask;
 mod block;
 mod input;
 mod listing;
-mod output;
 mod search;
 mod set;
 mod text;
 
+use crate::answers::{Pending, flush, pending_for, put_unknown};
 use crate::ask::ask;
 use crate::input::{MOST, find_byte};
-use crate::output::{Pending, flush, pending_for, put_unknown};
 use crate::set::{Kept, nothing_set, set};
 use names::name::lend;
 use std::io;

@@ -1,5 +1,5 @@
 // Whether the snapshot is fit for search, search and following.
-use crate::output::{
+use crate::answers::{
     Pending, put, put_id, put_line, put_name, put_number, put_peeled, put_refused, put_refused_line,
 };
 use crate::set::Kept;

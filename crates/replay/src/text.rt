@@ -1,5 +1,5 @@
 // Questions that no snapshot answers: about names, and the content of a loose file.
-use crate::output::{
+use crate::answers::{
     Pending, put, put_bytes, put_id, put_line, put_name, put_refused, put_refused_line, put_unknown,
 };
 use blocks::block::LONGEST_CONTENT;
