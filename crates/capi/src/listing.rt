@@ -102,8 +102,7 @@ fn opening_number(o: Opening) -> u32
 }
 
 // A listing's opening: 0, or 1 to 5. Where it is refused the state is not written.
-#[unsafe(no_mangle)]
-pub extern "C" fn cosvint_list_open<'a>(
+pub fn cosvint_list_open<'a>(
     worktree: &'a [u8],
     common: &'a [u8],
     has_common: bool,
@@ -232,8 +231,7 @@ fn put_step<'a>(
 }
 
 // One step from the state, which becomes the next: 0 with a reference, 100 where the listing is ended, else 1, 2, or 6 to 12.
-#[unsafe(no_mangle)]
-pub extern "C" fn cosvint_list_step<'a>(
+pub fn cosvint_list_step<'a>(
     worktree: &'a [u8],
     common: &'a [u8],
     has_common: bool,

@@ -28,8 +28,7 @@ fn put_verdict(out: &mut [u8], v: Verdict) -> u32
 }
 
 // Fitness for search: 0, or 1, 2 and 6 to 8.
-#[unsafe(no_mangle)]
-pub extern "C" fn cosvint_fitness<'a>(
+pub fn cosvint_fitness<'a>(
     worktree: &'a [u8],
     common: &'a [u8],
     has_common: bool,
@@ -50,8 +49,7 @@ pub extern "C" fn cosvint_fitness<'a>(
 }
 
 // Search: 0 where a reference is found, 100 where it is not there, else 1 to 12.
-#[unsafe(no_mangle)]
-pub extern "C" fn cosvint_find<'a>(
+pub fn cosvint_find<'a>(
     worktree: &'a [u8],
     common: &'a [u8],
     has_common: bool,
@@ -83,8 +81,7 @@ pub extern "C" fn cosvint_find<'a>(
 }
 
 // Following: 0 where an id is reached, 100 where the name is not there, else 1 to 15.
-#[unsafe(no_mangle)]
-pub extern "C" fn cosvint_follow<'a>(
+pub fn cosvint_follow<'a>(
     worktree: &'a [u8],
     common: &'a [u8],
     has_common: bool,

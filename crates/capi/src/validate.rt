@@ -19,24 +19,21 @@ fn verdict_number(v: Verdict) -> u32
 }
 
 // A partial name: 3 over 250 bytes, 4 if malformed.
-#[unsafe(no_mangle)]
-pub extern "C" fn cosvint_partial_name(name: &[u8]) -> u32
+pub fn cosvint_partial_name(name: &[u8]) -> u32
     ensures { result ≡ check_number (names_check (some name.now) none) }
 {
     verdict_number(check_partial(name))
 }
 
 // A full name: 3 over 250 bytes, 4 if it is not complete.
-#[unsafe(no_mangle)]
-pub extern "C" fn cosvint_full_name(name: &[u8]) -> u32
+pub fn cosvint_full_name(name: &[u8]) -> u32
     ensures { result ≡ checked_number (full_checked name.now) }
 {
     verdict_number(check_full(name))
 }
 
 // A namespace: 3 over 250 bytes, 4 if malformed, 5 if its expansion is over 250 bytes.
-#[unsafe(no_mangle)]
-pub extern "C" fn cosvint_namespace(namespace: &[u8]) -> u32
+pub fn cosvint_namespace(namespace: &[u8]) -> u32
     ensures { result ≡ checked_number (expanded namespace.now) }
 {
     verdict_number(check_namespace(namespace))
