@@ -1,4 +1,4 @@
--- Where `blocks-compute` is unfolded, every definition of names and blocks computes: for tables and examples.
+-- Where `blocks_compute` is unfolded, every definition of names and blocks computes: for tables and examples.
 use Rattle.names.proofs.Computing.{names_compute}
 use Rattle.blocks.specs.Block.{block_kind, name_length, content_length, block_name, block_content, lengths_right, unused_zero, weighted, sum_right, layout_right, kind_suits, record_right, shape_right, sound}
 use Rattle.blocks.specs.Content.{is_hex, skip_spaces, line, read_target, begins_hex, read_id, read}

@@ -1,4 +1,4 @@
--- Where `refs-compute` is unfolded, every definition computes: for tables and examples.
+-- Where `refs_compute` is unfolded, every definition computes: for tables and examples.
 use Rattle.blocks.proofs.Computing.{blocks_compute}
 use Rattle.refs.specs.Answer.{block_of}
 use Rattle.refs.specs.Search.{clashes, file_of, entry_for, lookup, first_answer, search, find}

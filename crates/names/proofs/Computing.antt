@@ -1,4 +1,4 @@
--- Where `names-compute` is unfolded, every definition of names computes: for tables and examples.
+-- Where `names_compute` is unfolded, every definition of names computes: for tables and examples.
 use Rattle.names.specs.Bytes.{order, starts_with, ends_with, contains, every, strip}
 use Rattle.names.specs.Name.{is_pseudo, looks_full, directory, remote_head}
 use Rattle.names.specs.WellFormed.{well_formed, complete}
