@@ -3,7 +3,7 @@ use Rattle.std.specs.Prelude.{if◌then◌else◌}
 use mathlib.Core.Path.{◌≡◌, refl, sym}
 use mathlib.Core.Bool.{Bool, true, false, not}
 use mathlib.Core.List.{[], ◌∷◌}
-use mathlib.Core.Option.{none, some}
+use Rattle.std.specs.Prelude.{None, Some}
 use Prim.Native.Nat.{ℕ, suc, ◌≤◌, ◌<◌}
 use native.Mathlib.Omega.{arith}
 use borrow.Author.Tests.{leb-true}
@@ -14,7 +14,7 @@ use Rattle.names.specs.Bytes.{Bytes, bytes, same, starts_with, every, after}
 use Rattle.names.specs.Name.{fits}
 use Rattle.names.specs.Means.{if_fits}
 use Rattle.names.specs.WellFormed.{complete}
-use Rattle.names.proofs.Tests.{and_left, none≢some, if_case}
+use Rattle.names.proofs.Tests.{and_left, none≢Some, if_case}
 use Rattle.blocks.specs.Content.{object, symbolic, reads, unreadable, is_hex, lower_case, ends_line, skip_spaces, line, target_name_in, begins_hex, read_target, read_id, read}
 use Rattle.blocks.specs.Means.{id_in, is_id, parsed, kind_reading, kind_held, within_name}
 use Rattle.blocks.specs.declared.decode.TargetKind.{TargetKind}
@@ -90,18 +90,18 @@ unfolding read_target
 target_incomplete t e f = rw (e, f)
 
 -- c was made of t, if a name can hold t: then kind, id and c say what kind, id and t do, as far as a struct can hold it
-pub name_made : (ok : Bool) (c t : Bytes) → (if ok then some c else none) ≡ if_fits t → (k : TargetKind) (id : Bytes) → kind_reading (kind_held ok k) id c ≡ within_name (kind_reading k id t)
+pub name_made : (ok : Bool) (c t : Bytes) → (if ok then Some c else None) ≡ if_fits t → (k : TargetKind) (id : Bytes) → kind_reading (kind_held ok k) id c ≡ within_name (kind_reading k id t)
 name_made ok c t made k id = go ok (fits t) refl made k
   where
-    some_eq : some c ≡ some t → c ≡ t
+    some_eq : Some c ≡ Some t → c ≡ t
     some_eq e = cc
 
-    go : (o f : Bool) → fits t ≡ f → (if o then some c else none) ≡ (if f then some t else none) → (k : TargetKind) → kind_reading (kind_held o k) id c ≡ within_name (kind_reading k id t)
+    go : (o f : Bool) → fits t ≡ f → (if o then Some c else None) ≡ (if f then Some t else None) → (k : TargetKind) → kind_reading (kind_held o k) id c ≡ within_name (kind_reading k id t)
     go true true f e Object = refl
     go true true f e Symbolic = rw (f, some_eq e)
     go true true f e (Refused why) = refl
-    go true false f e k = none≢some (sym e)
-    go false true f e k = none≢some e
+    go true false f e k = none≢Some (sym e)
+    go false true f e k = none≢Some e
     go false false f e Object = refl
     go false false f e Symbolic = rw f
     go false false f e (Refused why) = refl

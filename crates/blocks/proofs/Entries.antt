@@ -2,7 +2,7 @@
 use mathlib.Core.Path.{◌≡◌}
 use mathlib.Core.Bool.{true, not}
 use mathlib.Core.List.{◌∷◌}
-use mathlib.Core.Option.{none, some}
+use Rattle.std.specs.Prelude.{None, Some}
 use Prim.Native.Nat.{ℕ, ◌+◌, ◌≤◌, ◌<◌}
 use native.Mathlib.Numerals.{add-one}
 use native.Mathlib.Omega.{arith}
@@ -25,10 +25,10 @@ module _ (width : ℕ) (r : Region) where
         let l : k < length (entries width r s) = omega (arith, length_entries width r s) in
         rw (add-one, drop-cons (entries width r s) k damaged l, entry_at width r s k damaged h)
 
-    pub entry_there : k < block_count s → entry_in width r s k ≡ some (entry width r (block_at s k))
+    pub entry_there : k < block_count s → entry_in width r s k ≡ Some (entry width r (block_at s k))
     entry_there h = rw (entries_at h)
 
-    pub entry_past : block_count s ≤ k → none ≡ entry_in width r s k
+    pub entry_past : block_count s ≤ k → None ≡ entry_in width r s k
     entry_past h =
         let l : length (entries width r s) ≤ k = omega (arith, length_entries width r s) in
         rw (drop_of_length-le (entries width r s) l)

@@ -3,7 +3,7 @@ use mathlib.Core.Path.{◌≡◌, refl, sym, ◌∙◌}
 use mathlib.Core.Bool.{Bool, true, false, ◌&&◌, not, false≢true}
 use mathlib.Core.Logic.{◌⊎◌, ⊎_elim, inl, inr}
 use mathlib.Core.List.{[]}
-use mathlib.Core.Option.{Option, none, some}
+use Rattle.std.specs.Prelude.{Option, None, Some}
 use Prim.Native.Nat.{ℕ, zero, suc, ◌+◌, ◌-◌, ◌≤◌, ◌<◌, Ordering}
 use native.Mathlib.Numerals.{add-one}
 use native.Mathlib.Omega.{arith}
@@ -12,7 +12,7 @@ use lib.Dec.{leb, eqb}
 use lib.ListN.{length, drop, drop_of_length-le}
 use Rattle.names.specs.Bytes.{Bytes, order}
 use Rattle.names.specs.Check.{Check}
-use Rattle.names.proofs.Tests.{and_left, and_right, none≢some}
+use Rattle.names.proofs.Tests.{and_left, and_right, none≢Some}
 use Rattle.blocks.specs.Block.{Region, block_kind, layout_right, kind_suits, shape_right, sound}
 use Rattle.blocks.specs.Entry.{name_of, entry_of, entry, entries}
 use Rattle.blocks.specs.Fitness.{Flaw, eight_unless, above, flaw, flaw_or, flaw_from, first_flaw}
@@ -24,7 +24,7 @@ use Rattle.blocks.proofs.Stores.{entries_if_any, store_is}
 
 -- ---- the name before
 
-pub above_first : (s : Bytes) (k : ℕ) (n : Bytes) → k ≡ 0 → above (name_before s k) n ≡ none
+pub above_first : (s : Bytes) (k : ℕ) (n : Bytes) → k ≡ 0 → above (name_before s k) n ≡ None
 unfolding name_before
 above_first s k n e = rw e
 
@@ -33,12 +33,12 @@ unfolding name_before
 above_next s zero n h = absurd (h refl)
 above_next s (suc j) n h = let e : suc j - 1 ≡ j = omega arith in rw e
 
-pub eight_none : (o : Ordering) → not (is_there (eight_unless o)) ≡ true → eight_unless o ≡ none
+pub eight_none : (o : Ordering) → not (is_there (eight_unless o)) ≡ true → eight_unless o ≡ None
 eight_none Ordering.lt h = refl
 eight_none Ordering.eq h = absurd (false≢true h)
 eight_none Ordering.gt h = absurd (false≢true h)
 
-pub eight_some : (o : Ordering) → not (is_there (eight_unless o)) ≡ false → eight_unless o ≡ some 8
+pub eight_some : (o : Ordering) → not (is_there (eight_unless o)) ≡ false → eight_unless o ≡ Some 8
 eight_some Ordering.lt h = absurd (false≢true (sym h))
 eight_some Ordering.eq h = refl
 eight_some Ordering.gt h = refl
@@ -78,10 +78,10 @@ no_other {A} r k h e a b d = go r h
         absurd (omega (arith, apart 4 d, not_5))
 
 module _ (width : ℕ) (r : Region) (before : Option Bytes) (b : Bytes) where
-  pub flaw_damaged : not (sound width r b) ≡ true → flaw before (entry width r b) ≡ some 6
+  pub flaw_damaged : not (sound width r b) ≡ true → flaw before (entry width r b) ≡ Some 6
   flaw_damaged e = rw (entry_damaged width r b e)
 
-  pub flaw_error : sound width r b ≡ true → (block_kind b ≡ 3) ⊎ (block_kind b ≡ 5) → flaw before (entry width r b) ≡ some 7
+  pub flaw_error : sound width r b ≡ true → (block_kind b ≡ 3) ⊎ (block_kind b ≡ 5) → flaw before (entry width r b) ≡ Some 7
   unfolding entry_of
   flaw_error h = ⊎_elim (λ e. rw (entry_sound width r b h, e)) (λ e. rw (entry_sound width r b h, e))
 
@@ -97,32 +97,32 @@ module _ (width : ℕ) (r : Region) (before : Option Bytes) (b : Bytes) where
       go false false false e₁ e₂ e₄ = no_other r (block_kind b) (suits width r b h) e e₁ e₂ e₄
 
   -- the name that the next block has to be above
-  pub name_after : flaw before (entry width r b) ≡ none → name_of (entry width r b) ≡ some (name_within b)
+  pub name_after : flaw before (entry width r b) ≡ None → name_of (entry width r b) ≡ Some (name_within b)
   unfolding entry_of
   name_after h = go (sound width r b) refl
     where
       held : (k₁ k₂ k₄ : Bool) → eqb (block_kind b) 1 ≡ k₁ → eqb (block_kind b) 2 ≡ k₂ → eqb (block_kind b) 4 ≡ k₄
-          → flaw before (entry_of width (block_kind b) (name_within b) (content_within b)) ≡ none
-          → name_of (entry_of width (block_kind b) (name_within b) (content_within b)) ≡ some (name_within b)
+          → flaw before (entry_of width (block_kind b) (name_within b) (content_within b)) ≡ None
+          → name_of (entry_of width (block_kind b) (name_within b) (content_within b)) ≡ Some (name_within b)
       held true k₂ k₄ e₁ e₂ e₄ f = rw e₁
       held false true k₄ e₁ e₂ e₄ f = rw (e₁, e₂)
       held false false true e₁ e₂ e₄ f = rw (e₁, e₂, e₄)
-      held false false false e₁ e₂ e₄ f = none≢some (sym (rw (e₁, e₂, e₄) at f))
+      held false false false e₁ e₂ e₄ f = none≢Some (sym (rw (e₁, e₂, e₄) at f))
 
-      go : (t : Bool) → sound width r b ≡ t → name_of (entry width r b) ≡ some (name_within b)
+      go : (t : Bool) → sound width r b ≡ t → name_of (entry width r b) ≡ Some (name_within b)
       go true t = rw (entry_sound width r b t) (held (eqb (block_kind b) 1) (eqb (block_kind b) 2) (eqb (block_kind b) 4) refl refl refl (rw (entry_sound width r b t) at h))
-      go false t = none≢some (sym (rw (entry_damaged width r b (rw t)) at h))
+      go false t = none≢Some (sym (rw (entry_damaged width r b (rw t)) at h))
 
 -- ---- the scan
 
 module _ (r : Region) (k : ℕ) where
   pub stop : (c : Check) (rest : Option Flaw) → is_there (flaw_at c r k) ≡ true → flaw_or c r k rest ≡ flaw_at c r k
-  stop none rest h = absurd (false≢true h)
-  stop (some n) rest h = refl
+  stop None rest h = absurd (false≢true h)
+  stop (Some n) rest h = refl
 
-  pub no_flaw : (c : Check) → is_there (flaw_at c r k) ≡ false → c ≡ none
-  no_flaw none h = refl
-  no_flaw (some n) h = absurd (false≢true (sym h))
+  pub no_flaw : (c : Check) → is_there (flaw_at c r k) ≡ false → c ≡ None
+  no_flaw None h = refl
+  no_flaw (Some n) h = absurd (false≢true (sym h))
 
 module _ (width : ℕ) (r : Region) (s : Bytes) where
   pub scan_start : first_flaw r (entries width r s) ≡ flaw_from r (name_before s 0) 0 (drop 0 (entries width r s))
@@ -146,14 +146,14 @@ module _ (width : ℕ) (r : Region) (s : Bytes) where
         let f = no_flaw r k (flaw (name_before s k) (entry width r (block_at s k))) e in
         at_block h (name_before s k) ∙ rw (f, name_after width r (name_before s k) (block_at s k) f, add-one)
 
-    pub scan_end : block_count s ≤ k → flaw_from r (name_before s k) k (drop k (entries width r s)) ≡ none
+    pub scan_end : block_count s ≤ k → flaw_from r (name_before s k) k (drop k (entries width r s)) ≡ None
     unfolding flaw_from
     scan_end h =
         let l : length (entries width r s) ≤ k = omega (arith, length_entries width r s) in
         rw (drop_of_length-le (entries width r s) l)
 
 -- a region without blocks has no flaw
-pub no_blocks_flawless : (width : ℕ) (r : Region) → first_flaw r (entries width r []) ≡ none
+pub no_blocks_flawless : (width : ℕ) (r : Region) → first_flaw r (entries width r []) ≡ None
 no_blocks_flawless width r = scan_start width r [] ∙ scan_end width r [] 0 (omega arith)
 
 -- ---- three regions
@@ -162,24 +162,24 @@ abbrev pub region_flaw : ℕ → Region → Bytes → Option Flaw
 region_flaw width r s = first_flaw r (entries width r s)
 
 pub or_stop : (f g : Option Flaw) → is_there f ≡ true → or_flaw f g ≡ f
-or_stop none g h = absurd (false≢true h)
-or_stop (some f) g h = refl
+or_stop None g h = absurd (false≢true h)
+or_stop (Some f) g h = refl
 
 pub or_next : (f g : Option Flaw) → is_there f ≡ false → or_flaw f g ≡ g
-or_next none g h = refl
-or_next (some f) g h = absurd (false≢true (sym h))
+or_next None g h = refl
+or_next (Some f) g h = absurd (false≢true (sym h))
 
 pub three_regions : (width : ℕ) (w c p : Bytes) (t : Bool) → store_flaw (store width (snapshot_of w (if_there t c) p))
     ≡ or_flaw (region_flaw width Region.worktree w) (or_flaw (region_flaw width Region.common (or_empty (if_there t c))) (region_flaw width Region.packed p))
 unfolding store_flaw
 three_regions width w c p t = rw (store_is width (snapshot_of w (if_there t c) p), entries_if_any width Region.common (if_there t c))
 
-or_none : (f g : Option Flaw) → or_flaw f g ≡ none → (f ≡ none) × (g ≡ none)
-or_none none g h = (refl, h)
-or_none (some f) g h = none≢some (sym h)
+or_none : (f g : Option Flaw) → or_flaw f g ≡ None → (f ≡ None) × (g ≡ None)
+or_none None g h = (refl, h)
+or_none (Some f) g h = none≢Some (sym h)
 
 -- a store has no flaw: no region has one
-pub store_flawless : (s : Store) → store_flaw s ≡ none → (first_flaw Region.worktree s.worktree ≡ none) × (first_flaw Region.common (or_empty s.common) ≡ none) × (first_flaw Region.packed s.packed ≡ none)
+pub store_flawless : (s : Store) → store_flaw s ≡ None → (first_flaw Region.worktree s.worktree ≡ None) × (first_flaw Region.common (or_empty s.common) ≡ None) × (first_flaw Region.packed s.packed ≡ None)
 unfolding store_flaw
 store_flawless s h =
     let a = or_none (first_flaw Region.worktree s.worktree) _ h in

@@ -6,7 +6,7 @@ use native.Mathlib.Nat.{add-sub_cancel_left}
 use native.Mathlib.Omega.{arith}
 use mathlib.Core.List.{[]}
 use mathlib.Core.Bool.{Bool, true, false}
-use mathlib.Core.Option.{some}
+use Rattle.std.specs.Prelude.{Some}
 use borrow.Author.Tests.{leb-true, le-leb, lt-leb, ne_eqb}
 use lib.Dec.{leb, ltb}
 use lib.ListN.{length, take, drop, length-take, length-drop}
@@ -74,18 +74,18 @@ content_short s k = in_longest longest_content (ltb k (block_count s)) _ (conten
 
 -- what the kind tells of a block that is taken for sound
 module _ (width k : ℕ) (n c : Bytes) where
-  pub taken_loose : k ≡ 1 → some (loose n c) ≡ some (entry_of width k n c)
+  pub taken_loose : k ≡ 1 → Some (loose n c) ≡ Some (entry_of width k n c)
   unfolding entry_of
   taken_loose e = rw e
 
-  pub taken_unread : k ≡ 2 → some (unread n) ≡ some (entry_of width k n c)
+  pub taken_unread : k ≡ 2 → Some (unread n) ≡ Some (entry_of width k n c)
   unfolding entry_of
   taken_unread e = rw e
 
-  pub taken_record : k ≡ 4 → some (packed_record n (take width c) (peeled_in width c)) ≡ some (entry_of width k n c)
+  pub taken_record : k ≡ 4 → Some (packed_record n (take width c) (peeled_in width c)) ≡ Some (entry_of width k n c)
   unfolding entry_of
   taken_record e = rw e
 
-  pub taken_failed : (k ≡ 1 → ⊥) → (k ≡ 2 → ⊥) → (k ≡ 4 → ⊥) → some failed ≡ some (entry_of width k n c)
+  pub taken_failed : (k ≡ 1 → ⊥) → (k ≡ 2 → ⊥) → (k ≡ 4 → ⊥) → Some failed ≡ Some (entry_of width k n c)
   unfolding entry_of
   taken_failed a b d = rw (ne_eqb k 1 a, ne_eqb k 2 b, ne_eqb k 4 d)

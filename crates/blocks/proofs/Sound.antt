@@ -4,7 +4,7 @@ use mathlib.Core.Path.{◌≡◌, refl, sym, ◌∙◌}
 use mathlib.Core.Bool.{Bool, true, false, ◌&&◌}
 use mathlib.Core.Logic.{◌⊎◌, ⊎_elim, inl, inr}
 use mathlib.Core.List.{◌∷◌}
-use mathlib.Core.Option.{Option, none, some}
+use Rattle.std.specs.Prelude.{Option, None, Some}
 use Prim.Native.Nat.{ℕ, ◌+◌, ◌<◌}
 use native.Mathlib.Omega.{arith}
 use borrow.Author.Tests.{ltb-true, ltb-false, leb-false, eqb-true}
@@ -13,7 +13,7 @@ use lib.ListN.{length, take, drop, length-take, length-drop}
 use lib.Seq.{take_all}
 use Rattle.names.specs.Bytes.{Bytes, every}
 use Rattle.names.specs.WellFormed.{well_formed}
-use Rattle.names.proofs.Tests.{none≢some, and_left, and_right, or_eq}
+use Rattle.names.proofs.Tests.{none≢Some, and_left, and_right, or_eq}
 use Rattle.blocks.specs.Layout.{block_size}
 use Rattle.blocks.specs.Content.{is_hex, lower_case}
 use Rattle.blocks.specs.Block.{Region, block_kind, content_length, block_name, block_content, layout_right, kind_suits, record_right, shape_right, sound}
@@ -27,29 +27,29 @@ use Rattle.blocks.proofs.Clauses.{lengths_content, sound_lengths, shape_record}
 use Rattle.blocks.proofs.Entries.{entries_at, entry_there, entry_past, entry_damaged, entry_sound, sound_content}
 
 -- an entry that is not damaged is that of a sound block
-pub sound_of : (width : ℕ) (r : Region) (b n : Bytes) → name_of (entry width r b) ≡ some n → sound width r b ≡ true
+pub sound_of : (width : ℕ) (r : Region) (b n : Bytes) → name_of (entry width r b) ≡ Some n → sound width r b ≡ true
 sound_of width r b n h = go (sound width r b) refl
   where
     go : (t : Bool) → sound width r b ≡ t → sound width r b ≡ true
     go true e = e
-    go false e = none≢some (rw (entry_damaged width r b (rw e)) at h)
+    go false e = none≢Some (rw (entry_damaged width r b (rw e)) at h)
 
 pub shape_of : (width : ℕ) (r : Region) (b : Bytes) → sound width r b ≡ true → shape_right width b ≡ true
 unfolding sound
 shape_of width r b h = and_right (layout_right b && kind_suits r (block_kind b)) _ h
 
-module _ (width : ℕ) (r : Region) (s : Bytes) (fit : first_flaw r (entries width r s) ≡ none) (k : ℕ) where
+module _ (width : ℕ) (r : Region) (s : Bytes) (fit : first_flaw r (entries width r s) ≡ None) (k : ℕ) where
   pub fit_sound : k < block_count s → sound width r (block_at s k) ≡ true
   fit_sound h = go (rw (entries_at width r s k h) at (sorted_drop k (sorted r (entries width r s) fit)))
     where
-      go : Sorted none (entry width r (block_at s k) ∷ drop (k + 1) (entries width r s)) → sound width r (block_at s k) ≡ true
+      go : Sorted None (entry width r (block_at s k) ∷ drop (k + 1) (entries width r s)) → sound width r (block_at s k) ≡ true
       go (sorted-∷ n e a l) = sound_of width r (block_at s k) n e
 
   -- what a block of a fit region is taken for is its entry
   pub fit_taken : taken_in width s k ≡ entry_in width r s k
   fit_taken = go (ltb k (block_count s)) refl
     where
-      go : (t : Bool) → ltb k (block_count s) ≡ t → (if t then some (taken_entry width (block_at s k)) else none) ≡ entry_in width r s k
+      go : (t : Bool) → ltb k (block_count s) ≡ t → (if t then Some (taken_entry width (block_at s k)) else None) ≡ entry_in width r s k
       go true e =
           let h = ltb-true k (block_count s) e in
           rw (entry_there width r s k h, entry_sound width r (block_at s k) (fit_sound h))
@@ -100,10 +100,10 @@ module _ (width : ℕ) (r : Region) (b : Bytes) (l : length b ≡ block_size) (h
           other q = absurd (let z : ◌≡◌ {A = ℕ} 0 1 = cc in omega arith)
 
 module _ (width : ℕ) (r : Region) (s : Bytes) (k : ℕ) where
-  some_entry : {e f : Entry} → some e ≡ some f → e ≡ f
+  some_entry : {e f : Entry} → Some e ≡ Some f → e ≡ f
   some_entry q = cc
 
-  pub record_ids : (n t : Bytes) (p : Option Bytes) → entry_in width r s k ≡ some (packed_record n t p) → Ids width (content_in s k) t p
+  pub record_ids : (n t : Bytes) (p : Option Bytes) → entry_in width r s k ≡ Some (packed_record n t p) → Ids width (content_in s k) t p
   record_ids n t p h = go (ltb k (block_count s)) refl
     where
       go : (u : Bool) → ltb k (block_count s) ≡ u → Ids width (content_in s k) t p
@@ -111,21 +111,21 @@ module _ (width : ℕ) (r : Region) (s : Bytes) (k : ℕ) where
           let i = ltb-true k (block_count s) u in
           let e = some_entry (sym (entry_there width r s k i) ∙ h) in
           rw u (sound_ids width r (block_at s k) (length_block s k i) (sound_of width r (block_at s k) n (rw e)) n t p e)
-      go false u = none≢some (entry_past width r s k (ltb-false k (block_count s) u) ∙ h)
+      go false u = none≢Some (entry_past width r s k (ltb-false k (block_count s) u) ∙ h)
 
 -- the ids that are read off the content, in lower case
 module _ (width : ℕ) (c t : Bytes) where
   pub target_id : (p : Option Bytes) → Ids width c t p → id_in width c ≡ lower_case t
   target_id p h = rw h.target (id_whole width c (⊎_elim (λ e. omega arith) (λ e. omega arith) h.size))
 
-  pub peeled_id : (q : Bytes) → Ids width c t (some q) → id_in width (drop width c) ≡ lower_case q
+  pub peeled_id : (q : Bytes) → Ids width c t (Some q) → id_in width (drop width c) ≡ lower_case q
   peeled_id q h = go (leb (length c) width) refl
     where
-      some_bytes : {x y : Bytes} → some x ≡ some y → x ≡ y
+      some_bytes : {x y : Bytes} → Some x ≡ Some y → x ≡ y
       some_bytes e = cc
 
       go : (u : Bool) → leb (length c) width ≡ u → id_in width (drop width c) ≡ lower_case q
-      go true u = none≢some (sym (rw u at h.peeled))
+      go true u = none≢Some (sym (rw u at h.peeled))
       go false u =
           let more = leb-false (length c) width u in
           let two : length (drop width c) ≡ width = simp length-drop (⊎_elim (λ e. omega arith) (λ e. omega arith) h.size) in

@@ -2,8 +2,8 @@
 use mathlib.Core.Path.{◌≡◌, refl}
 use Prim.Native.Nat.{ℕ}
 use mathlib.Core.List.{[], map}
-use mathlib.Core.Option
-use mathlib.Core.Option.{Option, none, some}
+use Rattle.std.specs.Prelude.{Option, None, Some}
+use Rattle.std.specs.Option.{option_map}
 use Rattle.names.specs.Bytes.{Bytes}
 use Rattle.blocks.specs.Block.{Region}
 use Rattle.blocks.specs.Entry.{entry, first_blocks, blocks, entries}
@@ -22,11 +22,11 @@ module _ (width : ℕ) where
   no_entries r = rw (entries_are r [], no_blocks)
 
   -- an absent region has the entries of an empty one
-  pub entries_if_any : (r : Region) (c : Option Bytes) → or_empty (Option.map (entries width r) c) ≡ entries width r (or_empty c)
-  entries_if_any r none = rw (no_entries r)
-  entries_if_any r (some s) = refl
+  pub entries_if_any : (r : Region) (c : Option Bytes) → or_empty (option_map (entries width r) c) ≡ entries width r (or_empty c)
+  entries_if_any r None = rw (no_entries r)
+  entries_if_any r (Some s) = refl
 
   pub store_is : (s : Snapshot) → store width s
-      ≡ record { worktree = entries width Region.worktree s.worktree; common = Option.map (entries width Region.common) s.common; packed = entries width Region.packed s.packed }
+      ≡ record { worktree = entries width Region.worktree s.worktree; common = option_map (entries width Region.common) s.common; packed = entries width Region.packed s.packed }
   unfolding store
   store_is s = refl

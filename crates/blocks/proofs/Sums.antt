@@ -75,7 +75,7 @@ module _ (b : Bytes) (w : Within b) (z : unused_zero b ≡ true) where
       let name = sum_split b name_at n sum_at (omega arith) (omega (arith, w.name)) (omega (arith, w.name)) in
       let behind = sum_split b n content_at sum_at (omega (arith, w.name)) (omega arith) (omega arith) in
       let content = sum_split b content_at c sum_at (omega arith) (omega (arith, w.content)) (omega (arith, w.content)) in
-      let none = zeros_sum zero_at _ zeros.0 in
+      let None = zeros_sum zero_at _ zeros.0 in
       let none2 = zeros_sum n _ zeros.1 in
       let none3 = zeros_sum c _ zeros.2 in
       let name_is = ap (weighted name_at) (part_is b name_at (name_length b)) in

@@ -1,6 +1,6 @@
 -- What the code's types mean, and parts that its answers speak of.
 use Rattle.std.specs.Prelude.{◌≡◌, ℕ, zero, suc, ◌+◌, ◌*◌, ◌/◌, ◌≤◌, List, [], ◌∷◌, ◌++◌, Bool, true, false, ◌&&◌, not, leb, ltb, length, take, drop, replicate, if◌then◌else◌}
-use Rattle.std.proofs.Math.Option.{Option, none, some}
+use Rattle.std.specs.Prelude.{Option, None, Some}
 use Rattle.names.specs.Bytes.{Bytes, bytes, starts_with, every}
 use Rattle.names.specs.Check.{Check}
 use Rattle.names.specs.Name.{longest, fits}
@@ -65,13 +65,13 @@ taken_entry width b = entry_of width (block_kind b) (name_within b) (content_wit
 
 -- an entry, or none past the region's end: by the kind, with name and content beside it
 abbrev pub as_entry : ℕ → EntryKind → Bytes → Bytes → Option Entry
-as_entry width End n c = none
-as_entry width Damaged n c = some damaged
-as_entry width Failed n c = some failed
-as_entry width Loose n c = some (loose n c)
-as_entry width Unread n c = some (unread n)
-as_entry width Record n c = some (packed_record n (take width c) none)
-as_entry width PeeledRecord n c = some (packed_record n (take width c) (some (drop width c)))
+as_entry width End n c = None
+as_entry width Damaged n c = Some damaged
+as_entry width Failed n c = Some failed
+as_entry width Loose n c = Some (loose n c)
+as_entry width Unread n c = Some (unread n)
+as_entry width Record n c = Some (packed_record n (take width c) None)
+as_entry width PeeledRecord n c = Some (packed_record n (take width c) (Some (drop width c)))
 
 -- ---- the blocks of a region
 
@@ -93,8 +93,8 @@ content_in s i = if ltb i (block_count s) then content_within (block_at s i) els
 
 -- the first of a list, if there is one
 abbrev pub first : {A : Type 0} → List A → Option A
-first [] = none
-first (a ∷ l) = some a
+first [] = None
+first (a ∷ l) = Some a
 
 -- the entry of block i, none past the last
 abbrev pub entry_in : ℕ → Region → Bytes → ℕ → Option Entry
@@ -102,12 +102,12 @@ entry_in width r s i = first (drop i (entries width r s))
 
 -- the same if every block is sound
 abbrev pub taken_in : ℕ → Bytes → ℕ → Option Entry
-taken_in width s i = if ltb i (block_count s) then some (taken_entry width (block_at s i)) else none
+taken_in width s i = if ltb i (block_count s) then Some (taken_entry width (block_at s i)) else None
 
 -- the name before block i, if there is one
 unfoldable pub name_before : Bytes → ℕ → Option Bytes
-name_before s zero = none
-name_before s (suc i) = some (name_within (block_at s i))
+name_before s zero = None
+name_before s (suc i) = Some (name_within (block_at s i))
 
 -- ---- ids
 
@@ -166,8 +166,8 @@ within_name (unreadable k) = unreadable k
 
 -- an absent region is none, whatever was lent for it
 abbrev pub if_there : Bool → Bytes → Option Bytes
-if_there true s = some s
-if_there false s = none
+if_there true s = Some s
+if_there false s = None
 
 -- the snapshot of three regions that were lent
 abbrev pub snapshot_of : Bytes → Option Bytes → Bytes → Snapshot
@@ -175,9 +175,9 @@ snapshot_of w c p = record { worktree = w; common = c; packed = p }
 
 -- 1 "size not a multiple of 512", 2 "over 4,096 blocks"
 abbrev pub sizes_check : Sizes → Check
-sizes_check Right = none
-sizes_check NotWhole = some 1
-sizes_check TooMany = some 2
+sizes_check Right = None
+sizes_check NotWhole = Some 1
+sizes_check TooMany = Some 2
 
 -- 6 "damaged", 7 "kind 3 or 5", 8 "name not above the one before"
 abbrev pub reason_number : Reason → ℕ
@@ -187,9 +187,9 @@ reason_number reason.NotAbove = 8
 
 -- no flaw, or number, region and block
 abbrev pub flaw_of : Verdict → Option Flaw
-flaw_of Fit = none
-flaw_of (Unfit why r i) = some (record { number = reason_number why; region = region_of r; block = i })
+flaw_of Fit = None
+flaw_of (Unfit why r i) = Some (record { number = reason_number why; region = region_of r; block = i })
 
 -- the flaw of block i, by the check of it
 abbrev pub flaw_at : Check → Region → ℕ → Option Flaw
-flaw_at c r i = flaw_or c r i none
+flaw_at c r i = flaw_or c r i None

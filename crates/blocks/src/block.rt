@@ -1,6 +1,6 @@
 // A block of 512 bytes: its fields, and when it is damaged.
 ghost use Rattle.std.specs.Prelude.{◌≡◌, ◌+◌, ◌*◌, ◌<◌, ◌≤◌, true, ◌||◌, not, eqb, length, take, if◌then◌else◌};
-ghost use Rattle.std.proofs.Math.Option.{some};
+ghost use Rattle.std.specs.Prelude.{Some};
 ghost use Rattle.names.specs.Bytes.{Bytes, every};
 ghost use Rattle.names.specs.Name.{longest};
 ghost use Rattle.blocks.specs.Layout.{block_size, content_at, sum_at};
@@ -289,7 +289,7 @@ pub enum EntryKind {
 // What a block holds, taken for sound.
 fn kind_in(b: &[u8]) -> EntryKind
     requires { length b.now ≡ block_size }
-    ensures { as_entry id_width result (name_within b.now) (content_within b.now) ≡ some (taken_entry id_width b.now) }
+    ensures { as_entry id_width result (name_within b.now) (content_within b.now) ≡ Some (taken_entry id_width b.now) }
 {
     let kind = b[KIND_AT];
     match kind {
@@ -302,7 +302,7 @@ fn kind_in(b: &[u8]) -> EntryKind
 
 // A record, with a peeled id or without.
 fn record_kind(content: &[u8]) -> EntryKind
-    ensures { (n : Bytes) → as_entry id_width result n content.now ≡ some (packed_record n (take id_width content.now) (peeled_in id_width content.now)) }
+    ensures { (n : Bytes) → as_entry id_width result n content.now ≡ Some (packed_record n (take id_width content.now) (peeled_in id_width content.now)) }
 {
     if content.len() <= ID_WIDTH {
         EntryKind::Record

@@ -1,6 +1,6 @@
 // Sizes and fitness for search of a snapshot's regions.
 ghost use Rattle.std.specs.Prelude.{◌≡◌, ◌&&◌, not, ◌<◌};
-ghost use Rattle.std.proofs.Math.Option.{some};
+ghost use Rattle.std.specs.Prelude.{Some};
 ghost use Rattle.names.specs.Means.{ordering};
 ghost use Rattle.blocks.specs.Entry.{entry, entries};
 ghost use Rattle.blocks.specs.Fitness.{whole, not_too_many, eight_unless, above, flaw, first_flaw};
@@ -115,7 +115,7 @@ pub fn is_fit(v: Verdict) -> bool
 }
 
 fn unfit(reason: Reason, region: Region, block: usize) -> Verdict
-    ensures { flaw_of result ≡ flaw_at (some (reason_number reason)) (region_of region) block }
+    ensures { flaw_of result ≡ flaw_at (Some (reason_number reason)) (region_of region) block }
 {
     Verdict::Unfit {
         reason,

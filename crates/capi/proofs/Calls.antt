@@ -3,7 +3,7 @@ use mathlib.Core.Path.{◌≡◌, refl, ap, sym, ◌∙◌}
 use Prim.Native.Nat.{ℕ, ◌≤◌, ◌<◌}
 use native.Mathlib.Omega.{arith}
 use mathlib.Core.Bool.{true, false, false≢true}
-use mathlib.Core.Option.{Option, none, some}
+use Rattle.std.specs.Prelude.{Option, None, Some}
 use lib.ListN.{length, length-append, length-replicate}
 use lib.Dec.{leb}
 use borrow.Author.Tests.{le-leb, lt-leb}
@@ -30,8 +30,8 @@ use Rattle.capi.proofs.Fields.{low_first_length, padded_length, in_front}
 
 reference_length : (r : Option Reference) → length (reference_field r) ≡ reference_size
 unfolding reference_bytes
-reference_length none = length-replicate {A = ℕ} reference_size 0
-reference_length (some r) = simp (length-append, low_first_length, padded_length) refl
+reference_length None = length-replicate {A = ℕ} reference_size 0
+reference_length (Some r) = simp (length-append, low_first_length, padded_length) refl
 
 -- a report has its size, whatever it reports
 pub report_length : (r : Report) → length (report_bytes r) ≡ report_size
@@ -84,13 +84,13 @@ search_passed g a x e h = let_pass answer_report g a (answer_only x) e h ∙ onl
 -- fitness, by its checks
 pub fit_or_flaw : (s : Snapshot) (z : Sizes) (v : Verdict) → sizes_check z ≡ size_check s → z ≡ Right → flaw_of v ≡ store_flaw (store id_width s)
     → flaw_report (flaw_of v) ≡ fitness_report s
-fit_or_flaw s z v h e k = let right : size_check s ≡ none = sym h ∙ ap sizes_check e in rw (right, ← k) refl
+fit_or_flaw s z v h e k = let right : size_check s ≡ None = sym h ∙ ap sizes_check e in rw (right, ← k) refl
 
-pub size_refused : (s : Snapshot) (z w : Sizes) (k : ℕ) → sizes_check z ≡ size_check s → z ≡ w → sizes_check w ≡ some k → report k none ≡ fitness_report s
-size_refused s z w k h e m = let wrong : size_check s ≡ some k = sym h ∙ ap sizes_check e ∙ m in rw wrong refl
+pub size_refused : (s : Snapshot) (z w : Sizes) (k : ℕ) → sizes_check z ≡ size_check s → z ≡ w → sizes_check w ≡ Some k → report k None ≡ fitness_report s
+size_refused s z w k h e m = let wrong : size_check s ≡ Some k = sym h ∙ ap sizes_check e ∙ m in rw wrong refl
 
 -- ---- names
 
 pub number_of : {A : Type 0} (c : Check) (a : A) → check_number c ≡ checked_number (checked c a)
-number_of none a = refl
-number_of (some k) a = refl
+number_of None a = refl
+number_of (Some k) a = refl

@@ -3,7 +3,7 @@ use mathlib.Core.Path.{◌≡◌, refl, ap, ◌∙◌}
 use Prim.Native.Nat.{ℕ, ◌+◌}
 use native.Mathlib.Omega.{arith}
 use mathlib.Core.List.{◌++◌, append_assoc}
-use mathlib.Core.Option.{some}
+use Rattle.std.specs.Prelude.{Some}
 use lib.ListN.{length, take, drop, length-append}
 use lib.Seq.{take_at, take_all, drop_at}
 use Rattle.names.specs.Bytes.{Bytes}
@@ -63,7 +63,7 @@ module _ (i j k l : ℕ) (w x y z : Bytes) (hw : length w ≡ i) (hx : length x 
   fourth = ap (take l) (drop_at (w ++ x ++ y) z (i + j + k) (simp length-append (omega (arith, hw, hx, hy)))) ∙ take_all l z (omega (arith, hz))
 
 pub reference_fields : (number region block : ℕ) (q : Reference)
-    → ReferenceFields (report_bytes (record { number = number; region = region; block = block; reference = some q })) q
+    → ReferenceFields (report_bytes (record { number = number; region = region; block = block; reference = Some q })) q
 unfolding report_bytes reference_bytes low_first
 reference_fields number region block q =
     let w = padded id_width (object_id q.target) in

@@ -4,7 +4,7 @@ use Prim.Native.Nat.{ℕ, zero, suc, ◌+◌, ◌-◌, ◌*◌, ◌≤◌, ◌<�
 use native.Mathlib.Omega.{arith}
 use mathlib.Core.Bool.{Bool, true, false, not, false≢true}
 use mathlib.Core.List.{[], ◌∷◌, ◌++◌}
-use mathlib.Core.Option.{none, some}
+use Rattle.std.specs.Prelude.{None, Some}
 use lib.Dec.{leb, eqb}
 use lib.ListN.{length, take, drop, replicate, length-append, length-take}
 use borrow.Author.Tests.{le-leb, lt-leb}
@@ -104,8 +104,8 @@ open_too_short c state h = let e : leb state_size (length state) ≡ false = lt-
 pub open_refused : (c : Checked State) (k : Check) (st : State) (state : Bytes) (n : ℕ) → state_size ≤ length state → checked k st ≡ c
     → not (is_there k) ≡ false → n ≡ check_number k → OpenGiven c state state n
 unfolding opening_number opening_state
-open_refused c none st state n h e t m = absurd (false≢true (sym t))
-open_refused c (some k) st state n h e t m =
+open_refused c None st state n h e t m = absurd (false≢true (sym t))
+open_refused c (Some k) st state n h e t m =
     let room : leb state_size (length state) ≡ true = le-leb state_size (length state) h in
     record { number = rw (room, ← e) m; left = rw (room, ← e) refl }
 
@@ -113,10 +113,10 @@ open_refused c (some k) st state n h e t m =
 pub open_gives : (c : Checked State) (k : Check) (st : State) {state after : Bytes} → state_size ≤ length state → checked k st ≡ c → not (is_there k) ≡ true
     → Wrote state 0 (state_bytes st) after → OpenGiven c state after 0
 unfolding opening_number opening_state
-open_gives c none st {state} {after} h e t p =
+open_gives c None st {state} {after} h e t p =
     let room : leb state_size (length state) ≡ true = le-leb state_size (length state) h in
     record { number = rw (room, ← e) refl; left = rw (room, ← e) (in_front (state_bytes st) (state_length st) h p) }
-open_gives c (some k) st h e t p = absurd (false≢true t)
+open_gives c (Some k) st h e t p = absurd (false≢true t)
 
 -- ---- steps
 

@@ -1,6 +1,6 @@
 -- How a report and a listing's state lie in a lent output.
 use Rattle.std.specs.Prelude.{ℕ, zero, suc, ◌+◌, ◌*◌, ◌/◌, ◌%◌, [], ◌∷◌, ◌++◌, Bool, true, false, not, eqb, length, take, drop, replicate}
-use Rattle.std.proofs.Math.Option.{Option, none, some}
+use Rattle.std.specs.Prelude.{Option, None, Some}
 use Rattle.names.specs.Bytes.{Bytes}
 use Rattle.names.specs.Name.{longest}
 use Rattle.blocks.specs.Content.{Target, object, symbolic}
@@ -57,12 +57,12 @@ target_name (symbolic n) = n
 
 -- the peeled id, and whether it is there
 abbrev pub peeled_id : Option Bytes → Bytes
-peeled_id none = []
-peeled_id (some p) = p
+peeled_id None = []
+peeled_id (Some p) = p
 
 abbrev pub peeled_bit : Option Bytes → ℕ
-peeled_bit none = 0
-peeled_bit (some p) = 1
+peeled_bit None = 0
+peeled_bit (Some p) = 1
 
 -- four numbers, two ids and two names
 abbrev pub reference_size : ℕ
@@ -82,8 +82,8 @@ reference_bytes r =
 
 -- zeros, where there is no reference
 abbrev pub reference_field : Option Reference → Bytes
-reference_field none = replicate reference_size 0
-reference_field (some r) = reference_bytes r
+reference_field None = replicate reference_size 0
+reference_field (Some r) = reference_bytes r
 
 -- ---- a report
 

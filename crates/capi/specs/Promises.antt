@@ -1,6 +1,6 @@
 -- What private functions promise.
 use Rattle.std.specs.Prelude.{◌≡◌, ℕ, [], Bool, true, false, if◌then◌else◌}
-use Rattle.std.proofs.Math.Option.{Option, none, some}
+use Rattle.std.specs.Prelude.{Option, None, Some}
 use Rattle.names.specs.Bytes.{Bytes}
 use Rattle.blocks.specs.Fitness.{Flaw}
 use Rattle.refs.specs.Answer.{Reference}
@@ -30,7 +30,7 @@ turned_report g = result_report passed_report (gated g tt)
 
 -- the report of fitness in regions of right sizes
 abbrev pub flaw_report : Option Flaw → Report
-flaw_report f = result_report passed_report (after_checks none f tt)
+flaw_report f = result_report passed_report (after_checks None f tt)
 
 -- ---- by a reference's kind
 
@@ -45,7 +45,7 @@ kind_code k = kind_number (target_of k [] [])
 
 -- the reference of a name, the kind of its target with an id and a name beside it, and a peeled id if it has one
 abbrev pub reference_with : Bytes → Kind → Bytes → Bytes → Bool → Bytes → Reference
-reference_with name k id target has_peeled peeled = record { name = name; target = target_of k id target; peeled = if has_peeled then some peeled else none }
+reference_with name k id target has_peeled peeled = record { name = name; target = target_of k id target; peeled = if has_peeled then Some peeled else None }
 
 -- ---- a step
 

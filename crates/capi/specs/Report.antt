@@ -1,6 +1,6 @@
 -- What a call reports: a number and, where there are such, a block's place and a reference.
 use Rattle.std.specs.Prelude.{ℕ}
-use Rattle.std.proofs.Math.Option.{Option, none, some}
+use Rattle.std.specs.Prelude.{Option, None, Some}
 use Rattle.names.specs.Check.{Check, Checked, gives, refuses}
 use Rattle.blocks.specs.Block.{Region}
 use Rattle.blocks.specs.Fitness.{Flaw}
@@ -37,19 +37,19 @@ region_number Region.packed = 3
 
 -- 6 to 8: "number, region, block"
 abbrev pub unfit_report : Flaw → Report
-unfit_report f = record { number = f.number; region = region_number f.region; block = f.block; reference = none }
+unfit_report f = record { number = f.number; region = region_number f.region; block = f.block; reference = None }
 
 -- a call on a snapshot, where what its answer reports is told
 abbrev pub result_report : {A : Type 0} → (A → Report) → Result A → Report
 result_report f (answers a) = f a
-result_report f (turned_away k) = report k none
+result_report f (turned_away k) = report k None
 result_report f (unfit w) = unfit_report w
 
 -- an answer of search or of a listing's step
 abbrev pub answer_report : Answer → Report
-answer_report nothing = report nothing_number none
-answer_report (found r) = report 0 (some r)
-answer_report (refused k) = report k none
+answer_report nothing = report nothing_number None
+answer_report (found r) = report 0 (Some r)
+answer_report (refused k) = report k None
 
 -- search
 abbrev pub searched_report : Searched → Report
@@ -57,14 +57,14 @@ searched_report s = answer_report s.answer
 
 -- following: the last reference reached has the id
 abbrev pub followed_report : Followed → Report
-followed_report not_there = report nothing_number none
-followed_report (reached id r) = report 0 (some r)
-followed_report (stopped k r) = report k (some r)
-followed_report (barred k) = report k none
+followed_report not_there = report nothing_number None
+followed_report (reached id r) = report 0 (Some r)
+followed_report (stopped k r) = report k (Some r)
+followed_report (barred k) = report k None
 
 -- a call that answers no more than that its checks passed
 abbrev pub passed_report : Unit {0} → Report
-passed_report u = report 0 none
+passed_report u = report 0 None
 
 -- "Fit for search means none of 1, 2, 6, 7, 8."
 abbrev pub fitness_report : Snapshot → Report
@@ -72,8 +72,8 @@ fitness_report s = result_report passed_report (after_checks (size_check s) (sto
 
 -- a check's number, 0 where it passes
 abbrev pub check_number : Check → ℕ
-check_number none = 0
-check_number (some k) = k
+check_number None = 0
+check_number (Some k) = k
 
 -- the same of an answer that a check may refuse
 abbrev pub checked_number : {A : Type 0} → Checked A → ℕ

@@ -1,5 +1,5 @@
 // Reports: the number, a block's place and a reference, at fixed places of an output.
-ghost use Rattle.std.proofs.Math.Option.{none, some};
+ghost use Rattle.std.specs.Prelude.{None, Some};
 ghost use Rattle.std.specs.Prelude.{◌≡◌, [], ◌++◌, replicate, if◌then◌else◌};
 ghost use Rattle.blocks.specs.Means.{region_of, reason_number};
 ghost use Rattle.refs.specs.Means.{answered, trail_of};
@@ -149,7 +149,7 @@ fn put_place(out: &mut [u8], number: u32, region: u64, block: usize)
 
 // A number alone.
 pub(crate) fn put_number(out: &mut [u8], number: u32) -> u32
-    ensures { Reported out.old (report number none) out.new result }
+    ensures { Reported out.old (report number None) out.new result }
 {
     put_place(out, number, 0, 0);
     put_no_reference(out);
@@ -167,7 +167,7 @@ pub(crate) fn put_numbered<'a>(
     has_peeled: bool,
     peeled: &'a [u8],
 ) -> u32
-    ensures { Reported out.old (report number (some (reference_with name.now kind id.now target.now has_peeled peeled.now))) out.new result }
+    ensures { Reported out.old (report number (Some (reference_with name.now kind id.now target.now has_peeled peeled.now))) out.new result }
 {
     put_place(out, number, 0, 0);
     put_reference(out, name, kind, id, target, has_peeled, peeled);

@@ -1,6 +1,6 @@
 // Checks of names: 0 where a name is accepted, else the number of its refusal.
 ghost use Rattle.std.specs.Prelude.{◌≡◌};
-ghost use Rattle.std.proofs.Math.Option.{none, some};
+ghost use Rattle.std.specs.Prelude.{None, Some};
 ghost use Rattle.names.specs.Namespace.{names_check, expanded};
 ghost use Rattle.names.specs.Means.{check_of, full_checked};
 ghost use Rattle.capi.specs.Report.{check_number, checked_number};
@@ -20,7 +20,7 @@ fn verdict_number(v: Verdict) -> u32
 
 // A partial name: 3 over 250 bytes, 4 if malformed.
 pub fn cosvint_partial_name(name: &[u8]) -> u32
-    ensures { result ≡ check_number (names_check (some name.now) none) }
+    ensures { result ≡ check_number (names_check (Some name.now) None) }
 {
     verdict_number(check_partial(name))
 }

@@ -2,7 +2,7 @@
 #![tactic(auto)]
 
 ghost use Rattle.std.specs.Prelude.{◌≡◌};
-ghost use Rattle.std.proofs.Math.Option.{none, some};
+ghost use Rattle.std.specs.Prelude.{None, Some};
 ghost use Rattle.names.specs.Namespace.{names_check, expanded};
 ghost use Rattle.names.specs.Means.{full_checked};
 ghost use Rattle.blocks.specs.Means.{id_width, if_there, snapshot_of};
@@ -18,7 +18,7 @@ use capi::{listing, search, validate};
 // A partial name: 3 over 250 bytes, 4 if malformed.
 #[unsafe(no_mangle)]
 pub extern "C" fn cosvint_partial_name(name: &[u8]) -> u32
-    ensures { result ≡ check_number (names_check (some name.now) none) }
+    ensures { result ≡ check_number (names_check (Some name.now) None) }
 {
     validate::cosvint_partial_name(name)
 }

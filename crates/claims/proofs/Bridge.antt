@@ -4,11 +4,11 @@ use mathlib.Core.Path.{◌≡◌, refl, sym, ◌∙◌}
 use Prim.Native.Nat.{ℕ}
 use mathlib.Core.List.{List, [], ◌∷◌, map}
 use mathlib.Core.Bool.{Bool, true, false, ◌&&◌}
-use mathlib.Core.Option
-use mathlib.Core.Option.{Option, none, some}
+use Rattle.std.specs.Prelude.{Option, None, Some}
+use Rattle.std.specs.Option.{option_map}
 use Rattle.names.specs.Bytes.{Bytes, same}
 use Rattle.names.specs.Route.{shared}
-use Rattle.names.proofs.Tests.{if_eq, none≢some}
+use Rattle.names.proofs.Tests.{if_eq, none≢Some}
 use Rattle.names.proofs.Orders.{same_eq}
 use Rattle.blocks.specs.Block.{Region, block_kind, block_name, block_content}
 use Rattle.blocks.specs.Entry.{Entry, name_of, entry_of, entry, blocks, entries}
@@ -25,8 +25,8 @@ use Rattle.claims.proofs.StoreCut.{Records, held}
 
 -- the entry of the first of the blocks that bear the name n
 abbrev pub first_entry : ℕ → Bytes → List Held → Option Entry
-first_entry width n [] = none
-first_entry width n (h ∷ l) = some (entry_of width h.kind n h.content)
+first_entry width n [] = None
+first_entry width n (h ∷ l) = Some (entry_of width h.kind n h.content)
 
 -- ---- one region
 
@@ -37,20 +37,20 @@ module _ (width : ℕ) (r : Region) where
   blocks_entry n (x ∷ l) (sorted-∷ m e a s) = rw (block_more n (entry width r x) (map (entry width r) l), e) (step (raw width r x m e) (blocks_entry n l s))
     where
       go : (b : Bool) → same (block_name x) n ≡ b → entry width r x ≡ entry_of width (block_kind x) (block_name x) (block_content x) → block_of n (map (entry width r) l) ≡ first_entry width n (bearing n l)
-          → (if b then some (entry width r x) else block_of n (map (entry width r) l)) ≡ first_entry width n (if b then held_by x ∷ bearing n l else bearing n l)
+          → (if b then Some (entry width r x) else block_of n (map (entry width r) l)) ≡ first_entry width n (if b then held_by x ∷ bearing n l else bearing n l)
       go true q i ih = rw (i, same_eq (block_name x) n q)
       go false q i ih = ih
 
       step : Raw width r x m → block_of n (map (entry width r) l) ≡ first_entry width n (bearing n l)
-          → (if bears n (some m) then some (entry width r x) else block_of n (map (entry width r) l)) ≡ first_entry width n (if is_named x && same (block_name x) n then held_by x ∷ bearing n l else bearing n l)
+          → (if bears n (Some m) then Some (entry width r x) else block_of n (map (entry width r) l)) ≡ first_entry width n (if is_named x && same (block_name x) n then held_by x ∷ bearing n l else bearing n l)
       step w ih = rw (w.kinds, ← w.named) (go (same (block_name x) n) refl w.is ih)
 
-  region_entry : (n s : Bytes) → Sorted none (entries width r s) → block_of n (entries width r s) ≡ first_entry width n (held_in s n)
+  region_entry : (n s : Bytes) → Sorted None (entries width r s) → block_of n (entries width r s) ≡ first_entry width n (held_in s n)
   region_entry n s h = rw (entries_are width r s) (blocks_entry n (blocks s) (rw (entries_are width r s) at h))
 
 -- what a packed region has of a name is a record
-records_in : (width : ℕ) (n : Bytes) (f : Entry) (l : List Bytes) → block_of n (map (entry width Region.packed) l) ≡ some f → IsRecord f
-records_in width n f [] h = none≢some (sym (block_none n) ∙ h)
+records_in : (width : ℕ) (n : Bytes) (f : Entry) (l : List Bytes) → block_of n (map (entry width Region.packed) l) ≡ Some f → IsRecord f
+records_in width n f [] h = none≢Some (sym (block_none n) ∙ h)
 records_in width n f (x ∷ l) h =
     if_eq (bears n (name_of (entry width Region.packed x))) (sym (block_more n (entry width Region.packed x) (map (entry width Region.packed) l)) ∙ h)
     (λ b k. let g : entry width Region.packed x ≡ f = cc in rw (← g) (packed_entry width x n (bears_eq n (name_of (entry width Region.packed x)) b))) (λ b k. records_in width n f l k)
@@ -63,9 +63,9 @@ records_of width s n f h = records_in width n f (blocks s.packed) (rw (store_is 
 pub common_there : (width : ℕ) (s : Snapshot) → is_there (store width s).common ≡ is_there s.common
 common_there width s = rw (store_is width s) (go s.common)
   where
-    go : (o : Option Bytes) → is_there (Option.map (entries width Region.common) o) ≡ is_there o
-    go none = refl
-    go (some c) = refl
+    go : (o : Option Bytes) → is_there (option_map (entries width Region.common) o) ≡ is_there o
+    go None = refl
+    go (Some c) = refl
 
 module _ (width : ℕ) (s : Snapshot) (o : Ordered (store width s)) (n : Bytes) where
   pub in_worktree : block_of n (store width s).worktree ≡ first_entry width n (held_in s.worktree n)
@@ -83,10 +83,10 @@ module _ (width : ℕ) (s : Snapshot) (o : Ordered (store width s)) (n : Bytes) 
   pub in_shared : block_of n (region_at shared (store width s)) ≡ first_entry width n (held_in (region_at shared s) n)
   in_shared = rw (store_is width s) (go s.common (rw (store_is width s) at o.common))
     where
-      go : (c : Option Bytes) → Sorted none (or_empty (Option.map (entries width Region.common) c))
-          → block_of n (common_or (Option.map (entries width Region.common) c) (entries width Region.worktree s.worktree)) ≡ first_entry width n (held_in (common_or c s.worktree) n)
-      go none h = rw (store_is width s) at in_worktree
-      go (some c) h = region_entry width Region.common n c h
+      go : (c : Option Bytes) → Sorted None (or_empty (option_map (entries width Region.common) c))
+          → block_of n (common_or (option_map (entries width Region.common) c) (entries width Region.worktree s.worktree)) ≡ first_entry width n (held_in (common_or c s.worktree) n)
+      go None h = rw (store_is width s) at in_worktree
+      go (Some c) h = region_entry width Region.common n c h
 
   there : (l : List Held) → is_there (first_entry width n l) ≡ some_held l
   there [] = refl

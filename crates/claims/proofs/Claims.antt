@@ -2,7 +2,7 @@
 use mathlib.Core.Path.{◌≡◌}
 use Prim.Native.Nat.{ℕ}
 use mathlib.Core.List.{[]}
-use mathlib.Core.Option.{none, some}
+use Rattle.std.specs.Prelude.{None, Some}
 use Rattle.names.specs.Check.{Check, ◌or_else◌, gives, checked}
 use Rattle.names.specs.Namespace.{expansion, names_check}
 use Rattle.names.proofs.Rows.{names_none}
@@ -18,21 +18,21 @@ use Rattle.claims.proofs.Namespaced.{listing_in, following_in}
 use Rattle.claims.proofs.Premises.{store_cut}
 
 -- the opening passes on a snapshot fit for search
-pub opens : (width : ℕ) (s : Snapshot) → Fit width s → open_listing s none ≡ gives (start [])
-opens width s h = rw (open_is s none, h.sizes, names_none)
+pub opens : (width : ℕ) (s : Snapshot) → Fit width s → open_listing s None ≡ gives (start [])
+opens width s h = rw (open_is s None, h.sizes, names_none)
 
 pub listing_cut : ListingCut
-listing_cut width s t c = listing_in width s t c.fit c.fit' none (store_cut width s t c)
+listing_cut width s t c = listing_in width s t c.fit c.fit' None (store_cut width s t c)
 
 pub following_cut : FollowingCut
-following_cut width s t c = following_in width s t c.fit c.fit' none (store_cut width s t c)
+following_cut width s t c = following_in width s t c.fit c.fit' None (store_cut width s t c)
 
 pub names_rise_strictly : NamesRise
-names_rise_strictly width s h namespace n = rw (listing_is s namespace width n) (go (size_check s or_else names_check none namespace))
+names_rise_strictly width s h namespace n = rw (listing_is s namespace width n) (go (size_check s or_else names_check None namespace))
   where
-    go : (k : Check) → Rising none (answers_of (run_opened width s n (checked k (start (expansion namespace)))))
-    go none = names_rise width (expansion namespace) (Without (expansion namespace)) (scope_honest width (expansion namespace)) (without_rise (expansion namespace)) s h n
-    go (some k) = tt
+    go : (k : Check) → Rising None (answers_of (run_opened width s n (checked k (start (expansion namespace)))))
+    go None = names_rise width (expansion namespace) (Without (expansion namespace)) (scope_honest width (expansion namespace)) (without_rise (expansion namespace)) s h n
+    go (Some k) = tt
 
 pub demand_3 : Demand3
 demand_3 = record { listing = listing_cut; following = following_cut; rising = names_rise_strictly }

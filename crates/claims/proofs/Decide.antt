@@ -5,7 +5,7 @@ use mathlib.Core.Logic.{◌⊎◌, inl, inr}
 use Prim.Native.Nat.{ℕ}
 use mathlib.Core.List.{List, [], ◌∷◌}
 use mathlib.Core.Bool.{Bool, true, false, ◌&&◌, not, false≢true}
-use mathlib.Core.Option.{Option, none, some}
+use Rattle.std.specs.Prelude.{Option, None, Some}
 use lib.Dec.{eqb}
 use lib.ListN.{take}
 use Rattle.names.specs.Bytes.{Bytes, same}
@@ -248,9 +248,9 @@ module _ (out : Option Premise) (width : ℕ) where
     unfoldable pub fit_test : Snapshot → Bool
     fit_test u = not (is_there (size_check u)) && not (is_there (store_flaw (store width u)))
 
-    none_by : {A : Type 0} (o : Option A) → not (is_there o) ≡ true → o ≡ none
-    none_by none h = refl
-    none_by (some a) h = absurd (false≢true h)
+    none_by : {A : Type 0} (o : Option A) → not (is_there o) ≡ true → o ≡ None
+    none_by None h = refl
+    none_by (Some a) h = absurd (false≢true h)
 
     fit_by : (u : Snapshot) → fit_test u ≡ true → Fit width u
     unfolding fit_test

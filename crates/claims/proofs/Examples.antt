@@ -1,7 +1,7 @@
 -- Document 01's sample listing, its misreadings that the ● table leaves, and the calls that no table asks, by computation.
 use mathlib.Core.Path.{◌≡◌, refl}
 use mathlib.Core.List.{[], ◌∷◌, ◌++◌}
-use mathlib.Core.Option.{none, some}
+use Rattle.std.specs.Prelude.{None, Some}
 use lib.ListN.{replicate, take}
 use Rattle.names.specs.Bytes.{bytes}
 use Rattle.names.specs.Check.{gives, refuses}
@@ -30,7 +30,7 @@ pub record Examples : Type 0 where
   -- 13: the last reference reached is the one whose target is not there
   target_not_found : stops (snap (points "HEAD" "refs/heads/a" ++ points "refs/heads/a" "refs/heads/b") []) "HEAD" 13 (pointing "refs/heads/a" "refs/heads/b")
   -- 3 of a name and of a namespace; 5
-  too_long : (find 40 (snap [] []) (replicate 251 97) none ≡ turned_away 3) × (find 40 (snap [] []) (bytes "a") (some (replicate 251 97)) ≡ turned_away 3)
+  too_long : (find 40 (snap [] []) (replicate 251 97) None ≡ turned_away 3) × (find 40 (snap [] []) (bytes "a") (Some (replicate 251 97)) ≡ turned_away 3)
   expansion_too_long : expanded (replicate 240 97) ≡ refuses 5
   -- "Counting the starting reference as seen.": the fourth step reaches an object
   fourth_step : ends (snap (chain ++ file "E" 49) []) "A" ones
@@ -40,12 +40,12 @@ pub record Examples : Type 0 where
   full_linked : to_full_name (LinkedPseudoRef (bytes "a/b")) (bytes "HEAD") ≡ gives (bytes "worktrees/a/b/HEAD")
   full_refused : (to_full_name PseudoRef (bytes "a") ≡ refuses 4) × (to_full_name Tag (replicate 251 97) ≡ refuses 3)
   -- search: the third candidate; each name its own id; 1 before 4; 7 and 8 with region and block; at a block that is damaged, its name not above the one before, 6
-  third : find 40 (snap (file "refs/heads/a" 49) []) (bytes "a") none ≡ answers (record { tried = 3; answer = ref "refs/heads/a" 49 })
+  third : find 40 (snap (file "refs/heads/a" 49) []) (bytes "a") None ≡ answers (record { tried = 3; answer = ref "refs/heads/a" 49 })
   own_id : (ends (snap (file "refs/heads/a" 49 ++ file "refs/heads/b" 50) []) "a" ones) × (ends (snap (file "refs/heads/a" 49 ++ file "refs/heads/b" 50) []) "b" (an_id (replicate 40 50)))
-  size_first : find 40 (snap (0 ∷ []) []) (bytes "a..b") none ≡ turned_away 1
-  walk_error : find 40 (three [] (make 3 [] []) (make 5 [] [])) (bytes "a") none ≡ unfit (record { number = 7; region = Region.common; block = 0 })
-  unfit_block : find 40 (snap (file "refs/heads/b" 49 ++ file "refs/heads/a" 49) (replicate 512 0)) (bytes "a") none ≡ unfit (record { number = 8; region = Region.worktree; block = 1 })
-  lowest_number : find 40 (snap (file "refs/heads/b" 49 ++ (take 511 (file "refs/heads/a" 49) ++ (1 ∷ []))) []) (bytes "a") none ≡ unfit (record { number = 6; region = Region.worktree; block = 1 })
+  size_first : find 40 (snap (0 ∷ []) []) (bytes "a..b") None ≡ turned_away 1
+  walk_error : find 40 (three [] (make 3 [] []) (make 5 [] [])) (bytes "a") None ≡ unfit (record { number = 7; region = Region.common; block = 0 })
+  unfit_block : find 40 (snap (file "refs/heads/b" 49 ++ file "refs/heads/a" 49) (replicate 512 0)) (bytes "a") None ≡ unfit (record { number = 8; region = Region.worktree; block = 1 })
+  lowest_number : find 40 (snap (file "refs/heads/b" 49 ++ (take 511 (file "refs/heads/a" 49) ++ (1 ∷ []))) []) (bytes "a") None ≡ unfit (record { number = 6; region = Region.worktree; block = 1 })
 
 pub examples : Examples
 unfolding refs_compute

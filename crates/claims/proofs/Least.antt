@@ -1,6 +1,6 @@
 -- Three regions as one table: a move of the listing is a step of the table.
 use mathlib.Core.Path.{◌≡◌, refl, sym, ap, ◌∙◌}
-use mathlib.Core.Option.{Option, none, some}
+use Rattle.std.specs.Prelude.{Option, None, Some}
 use Prim.Native.Nat.{ℕ, Ordering}
 use lib.ListN.{drop}
 use Rattle.names.specs.Bytes.{Bytes, order}
@@ -15,8 +15,8 @@ use Rattle.claims.proofs.Waits.{region, Waits, empty, waits}
 
 infixr 50 ◌or◌
 abbrev pub ◌or◌ : Option Answer → Option Answer → Option Answer
-none or b = b
-some a or b = some a
+None or b = b
+Some a or b = Some a
 
 -- the answers that a listing of s at some positions still has to give: worktree over common over packed
 abbrev pub table : View → Store → Positions → Table
@@ -25,9 +25,9 @@ table v s at y =
     or region v.common (drop at.common (or_empty s.common)) y
     or region v.packed (drop at.packed s.packed) y
 
-or_none : (a b : Option Answer) → a or b ≡ none → (a ≡ none) × (b ≡ none)
-or_none none b h = (refl, h)
-or_none (some a) b h = (some_none refl h, some_none refl h)
+or_none : (a b : Option Answer) → a or b ≡ None → (a ≡ None) × (b ≡ None)
+or_none None b h = (refl, h)
+or_none (Some a) b h = (some_none refl h, some_none refl h)
 
 beyond_or : (o : Ordering) (a b c : Option Answer) → beyond o (a or b or c) ≡ beyond o a or beyond o b or beyond o c
 beyond_or Ordering.lt a b c = refl
@@ -37,8 +37,8 @@ beyond_or Ordering.gt a b c = refl
 module _ (Shown : Bytes → Bytes → Type 0) where
   -- what a table offers next
   data Offers (t : Table) : Option Offer → Type 0 where
-    offers_none : ((y : Bytes) → t y ≡ none) → Offers t none
-    offers : {o : Offer} → Starts Shown t o.name o.answer → Offers t (some o)
+    offers_none : ((y : Bytes) → t y ≡ None) → Offers t None
+    offers : {o : Offer} → Starts Shown t o.name o.answer → Offers t (Some o)
 
   -- what waits in a region, beside what the others offer
   least_offers : {t u : Table} {from : ℕ → Table} {h : Waiting} {q : Option Offer} → Waits Shown t from h → Offers u q → Offers (λ y. t y or u y) (least h q)
@@ -55,12 +55,12 @@ module _ (Shown : Bytes → Bytes → Type 0) where
           let d : o.name ≺ x = order_flip x o.name ∙ ap flip c in
           record { here = rw (s.before o.name d) s'.here; named = s'.named; before = λ y h. rw (s.before y (≺_trans y o.name x h d)) (s'.before y h) }
 
-  last_offers : {t : Table} {from : ℕ → Table} {h : Waiting} → Waits Shown t from h → Offers t (least h none)
+  last_offers : {t : Table} {from : ℕ → Table} {h : Waiting} → Waits Shown t from h → Offers t (least h None)
   last_offers (empty e) = offers_none e
   last_offers (waits {x = x} {a = a} s k) = offers {o = record { name = x; answer = a }} s
 
   -- a region, once a name x is handed out that is above none of its names
-  past_beyond : {from : ℕ → Table} {h : Waiting} (i : ℕ) (x : Bytes) → Waits Shown (from i) from h → ((y : Bytes) → y ≺ x → from i y ≡ none)
+  past_beyond : {from : ℕ → Table} {h : Waiting} (i : ℕ) (x : Bytes) → Waits Shown (from i) from h → ((y : Bytes) → y ≺ x → from i y ≡ None)
       → (y : Bytes) → from (past x h i) y ≡ beyond (order x y) (from i y)
   past_beyond i x (empty f) b y = f y ∙ sym (rw (f y) (beyond_none (order x y)))
   past_beyond {from} i x (waits {x = z} {a = a} {j = j} s k) b y = go (order x z) refl
@@ -86,11 +86,11 @@ module _ (Shown : Bytes → Bytes → Type 0) where
 
     module _ (w c p : Waiting) (at : Positions) (hw : Waits Shown (fw at.worktree) fw w) (hc : Waits Shown (fc at.common) fc c) (hp : Waits Shown (fp at.packed) fp p) where
       by_name_does : (q : Option Offer) → Offers (table_at at) q → Does Shown (table_at at) (by_name q w c p at).answer (table_at (by_name q w c p at).next)
-      by_name_does none (offers_none e) = ends refl e e
-      by_name_does (some o) (offers h) =
+      by_name_does None (offers_none e) = ends refl e e
+      by_name_does (Some o) (offers h) =
           let x : Bytes = o.name in
-          let none-w : (y : Bytes) → y ≺ x → fw at.worktree y ≡ none = λ y k. (or_none (fw at.worktree y) _ (h.before y k)).0 in
-          let none-cp : (y : Bytes) → y ≺ x → fc at.common y or fp at.packed y ≡ none = λ y k. (or_none (fw at.worktree y) _ (h.before y k)).1 in
+          let none-w : (y : Bytes) → y ≺ x → fw at.worktree y ≡ None = λ y k. (or_none (fw at.worktree y) _ (h.before y k)).0 in
+          let none-cp : (y : Bytes) → y ≺ x → fc at.common y or fp at.packed y ≡ None = λ y k. (or_none (fw at.worktree y) _ (h.before y k)).1 in
           hands x h
           (λ y. rw (
             past_beyond at.worktree x hw none-w y,
@@ -99,8 +99,8 @@ module _ (Shown : Bytes → Bytes → Type 0) where
           )
           (sym (beyond_or (order x y) (fw at.worktree y) (fc at.common y) (fp at.packed y))))
 
-      chosen : choose w c p at ≡ by_name (least w (least c (least p none))) w c p at
+      chosen : choose w c p at ≡ by_name (least w (least c (least p None))) w c p at
       chosen = no_error _ _ hp ∙ no_error _ _ hc ∙ no_error _ _ hw
 
       pub choose_does : Does Shown (table_at at) (choose w c p at).answer (table_at (choose w c p at).next)
-      choose_does = rw chosen (by_name_does (least w (least c (least p none))) (least_offers hw (least_offers hc (last_offers hp))))
+      choose_does = rw chosen (by_name_does (least w (least c (least p None))) (least_offers hw (least_offers hc (last_offers hp))))

@@ -5,7 +5,7 @@ use mathlib.Core.Logic.{◌⊎◌, inl, inr}
 use Prim.Native.Nat.{ℕ}
 use mathlib.Core.List.{[], ◌∷◌}
 use mathlib.Core.Bool.{Bool, true, false, not}
-use mathlib.Core.Option.{Option, none, some}
+use Rattle.std.specs.Prelude.{Option, None, Some}
 use lib.Dec.{eqb}
 use Rattle.names.specs.Bytes.{Bytes}
 use Rattle.names.specs.Name.{under_refs, remote_head}
@@ -47,8 +47,8 @@ index both_or_neither_common = 11
 
 -- the premise p, unless it is the one left out
 abbrev pub kept : Option Premise → Premise → Bool
-kept none p = true
-kept (some q) p = not (eqb (index q) (index p))
+kept None p = true
+kept (Some q) p = not (eqb (index q) (index p))
 
 -- what has to hold where a test does
 abbrev pub Where : Bool → Type 0 → Type 0
@@ -97,15 +97,15 @@ module _ (out : Option Premise) (width : ℕ) where
 
 -- with none left out they are the premises of specs/Demand3
 module _ (width : ℕ) (s t : Snapshot) where
-  loose_of : (u : Snapshot) (n id : Bytes) → LooseIn none width u n id → LooseId width u n id
+  loose_of : (u : Snapshot) (n id : Bytes) → LooseIn None width u n id → LooseId width u n id
   loose_of u n id l = record { content = l.content; there = subst (λ (b : Base). held_in (region_at b u) n ≡ record { kind = 1; content = l.content } ∷ []) l.is_read l.there; decodes = l.decodes }
 
-  has_of : (u : Snapshot) (n id : Bytes) → HasBut none width u n id → Has width u n id
+  has_of : (u : Snapshot) (n id : Bytes) → HasBut None width u n id → Has width u n id
   has_of u n id (HasBut.loose l h) = Has.loose (loose_of u n id l) h
   has_of u n id (HasBut.packed p h) = Has.packed p h
   has_of u n id (HasBut.over_stale l stale p) = Has.over_stale (loose_of u n id l) stale p
 
-  differ_of : (n : Bytes) → DifferBut none width s t n → Differ width s t n
+  differ_of : (n : Bytes) → DifferBut None width s t n → Differ width s t n
   differ_of n d =
       record {
         good = d.good;
@@ -118,25 +118,25 @@ module _ (width : ℕ) (s t : Snapshot) where
         worktree_alike = d.alike;
       }
 
-  each_of : (n : Bytes) → Agree s t n ⊎ DifferBut none width s t n → Agree s t n ⊎ Differ width s t n
+  each_of : (n : Bytes) → Agree s t n ⊎ DifferBut None width s t n → Agree s t n ⊎ Differ width s t n
   each_of n (inl a) = inl a
   each_of n (inr d) = inr (differ_of n d)
 
-  pub cut_of : CutBut none width s t → Cut width s t
+  pub cut_of : CutBut None width s t → Cut width s t
   cut_of c = record { fit = c.fit; fit' = c.fit'; flat = c.flat; flat' = c.flat'; each = λ n. each_of n (c.each n); same_common = c.same_common }
 
-  loose_in : (u : Snapshot) (n id : Bytes) → LooseId width u n id → LooseIn none width u n id
+  loose_in : (u : Snapshot) (n id : Bytes) → LooseId width u n id → LooseIn None width u n id
   loose_in u n id l = record { base = (route n).base; is_read = refl; content = l.content; there = l.there; decodes = l.decodes }
 
-  has_in : (u : Snapshot) (n id : Bytes) → Has width u n id → HasBut none width u n id
+  has_in : (u : Snapshot) (n id : Bytes) → Has width u n id → HasBut None width u n id
   has_in u n id (Has.loose l h) = HasBut.loose (loose_in u n id l) h
   has_in u n id (Has.packed p h) = HasBut.packed p h
   has_in u n id (Has.over_stale l stale p) = HasBut.over_stale (loose_in u n id l) stale p
 
-  each_in : (n : Bytes) → Agree s t n ⊎ Differ width s t n → Agree s t n ⊎ DifferBut none width s t n
+  each_in : (n : Bytes) → Agree s t n ⊎ Differ width s t n → Agree s t n ⊎ DifferBut None width s t n
   each_in n (inl a) = inl a
   each_in n (inr d) =
       inr (record { good = d.good; is_shared = d.is_shared; under = d.under; not_remote_head = d.not_remote_head; id = d.id; id' = d.id; ids = refl; has = has_in s n d.id d.has; has' = has_in t n d.id d.has'; alike = d.worktree_alike })
 
-  pub cut_in : Cut width s t → CutBut none width s t
+  pub cut_in : Cut width s t → CutBut None width s t
   cut_in c = record { fit = c.fit; fit' = c.fit'; flat = c.flat; flat' = c.flat'; each = λ n. each_in n (c.each n); same_common = c.same_common }

@@ -3,7 +3,7 @@ use mathlib.Core.Path.{◌≡◌, refl, sym, ap₂, ◌∙◌}
 use mathlib.Core.Bool.{Bool, true, false, false≢true, true≢false}
 use mathlib.Core.Logic.{inl, inr}
 use mathlib.Core.List.{List, ◌++◌}
-use mathlib.Core.Option.{Option, none, some}
+use Rattle.std.specs.Prelude.{Option, None, Some}
 use Prim.Native.Nat.{ℕ}
 use Rattle.names.specs.Bytes.{Bytes, starts_with}
 use Rattle.names.specs.WellFormed.{well_formed}
@@ -30,20 +30,20 @@ module _ (width : ℕ) (c : Scope) where
   opens s x = told (worktree_shows c) x s.worktree or told (common_shows c) x (or_empty s.common) or told (packed_shows c) x s.packed
 
   -- a name that is not kept says nothing
-  untold : (keep : Bytes → Bool) (x : Bytes) → keep x ≡ false → (l : List Entry) → told keep x l ≡ none
+  untold : (keep : Bytes → Bool) (x : Bytes) → keep x ≡ false → (l : List Entry) → told keep x l ≡ None
   untold keep x k l = go (block_of x l) (λ f h. block_bears x f l h)
     where
-      go : (o : Option Entry) → ((f : Entry) → o ≡ some f → name_of f ≡ some x) → said (see width c.stripped keep) o ≡ none
-      go none h = refl
-      go (some damaged) h = refl
-      go (some failed) h = refl
-      go (some (loose y d)) h = let n = h (loose y d) refl in let q : y ≡ x = cc in rw (q, k)
-      go (some (unread y)) h = let n = h (unread y) refl in let q : y ≡ x = cc in rw (q, k)
-      go (some (packed_record y t p)) h = let n = h (packed_record y t p) refl in let q : y ≡ x = cc in rw (q, k)
+      go : (o : Option Entry) → ((f : Entry) → o ≡ Some f → name_of f ≡ Some x) → said (see width c.stripped keep) o ≡ None
+      go None h = refl
+      go (Some damaged) h = refl
+      go (Some failed) h = refl
+      go (Some (loose y d)) h = let n = h (loose y d) refl in let q : y ≡ x = cc in rw (q, k)
+      go (Some (unread y)) h = let n = h (unread y) refl in let q : y ≡ x = cc in rw (q, k)
+      go (Some (packed_record y t p)) h = let n = h (packed_record y t p) refl in let q : y ≡ x = cc in rw (q, k)
 
   -- what is shown of an id
   abbrev id_shown : Bool → Bytes → Bytes → Option Answer
-  id_shown b x id = shows (shown_if b x (strip_answer c.stripped (found (record { name = x; target = object id; peeled = none }))))
+  id_shown b x id = shows (shown_if b x (strip_answer c.stripped (found (record { name = x; target = object id; peeled = None }))))
 
   -- the region where a shared name is read, over packed: the id, if the name is kept
   held_told : (e : Bytes) (s : Store) (n id : Bytes) (keep : Bytes → Bool) (b : Bool) → keep (e ++ n) ≡ b → packed_shows c (e ++ n) ≡ b → Holds width e s n id
@@ -57,7 +57,7 @@ module _ (width : ℕ) (c : Scope) where
 
   -- a worktree block stands over what search reads, where that is common
   abbrev over : Bool → Option Answer → Option Answer
-  over false o = none
+  over false o = None
   over true o = o
 
   -- the names that are kept where search reads
@@ -71,8 +71,8 @@ module _ (width : ℕ) (c : Scope) where
     where
       go : (k : Option (List Entry)) → told (worktree_shows c) x s.worktree or told (common_shows c) x (or_empty k) or told (packed_shows c) x s.packed
           ≡ over (is_there k) (told (worktree_shows c) x s.worktree) or told (keep_base (is_there k)) x (common_or k s.worktree) or told (packed_shows c) x s.packed
-      go none = rw (block_none x)
-      go (some k) = refl
+      go None = rw (block_none x)
+      go (Some k) = refl
 
   -- a shared well-formed name is kept in all regions or in none
   kept_alike : (b : Bool) (x : Bytes) → well_formed x ≡ true → is_private x ≡ false → starts_with c.loose_under x ≡ starts_with c.packed_under x → keep_base b x ≡ packed_shows c x

@@ -7,7 +7,8 @@ use Prim.Native.Nat.{ℕ}
 use native.Mathlib.Omega.{arith}
 use mathlib.Core.List.{◌++◌, append_cancel_left}
 use mathlib.Core.Bool.{Bool, true, false}
-use mathlib.Core.Option.{Option, none, some, map}
+use Rattle.std.specs.Prelude.{Option, None, Some}
+use Rattle.std.specs.Option.{option_map}
 use Rattle.names.specs.Bytes.{Bytes, strip}
 use Rattle.names.specs.Name.{fits, under_refs, remote_head}
 use Rattle.names.specs.Category.{is_private}
@@ -40,7 +41,7 @@ module _ (width : ℕ) (e : Bytes) (s : Store) where
     pub name : Bytes
     pub content : Bytes
     pub target : Bytes
-    pub is : file_of e s n ≡ some (loose name content)
+    pub is : file_of e s n ≡ Some (loose name content)
     pub reads_as : read width content ≡ reads (symbolic target)
 
   -- two answers with one object target, of names that following has not seen
@@ -73,15 +74,15 @@ module _ (width : ℕ) (e : Bytes) where
     named : (reference.name ≡ k.name) ⊎ (reference.name ≡ (route k.name).path)
 
   module _ (s : Store) (k : Candidate) (id : Bytes) (u : under_refs (route k.name).path ≡ true) (v : is_private (route k.name).path ≡ false) where
-    answered : ((f : Entry) → file_of e s k.name ≡ some f → strip e k.name ≡ k.name) → Fair k → remote_head (route k.name).path ≡ false
+    answered : ((f : Entry) → file_of e s k.name ≡ Some f → strip e k.name ≡ k.name) → Fair k → remote_head (route k.name).path ≡ false
         → clashing s k ≡ false → Holds width e s (route k.name).path id → Answered s k id
     answered keep fair w n (as_loose c h r) =
         let f = file_path e s k.name u v ∙ h in
-        record { reference = record { name = k.name; target = object id; peeled = none }; is = rw (entry_is e s k, n, f, r, keep _ f); target = refl; named = inl refl }
+        record { reference = record { name = k.name; target = object id; peeled = None }; is = rw (entry_is e s k, n, f, r, keep _ f); target = refl; named = inl refl }
     answered keep fair w n (as_packed t p h hb hi) =
         let f = file_path e s k.name u v ∙ h in
         record {
-          reference = record { name = (route k.name).path; target = object id; peeled = map lower_case p };
+          reference = record { name = (route k.name).path; target = object id; peeled = option_map lower_case p };
           is = rw (entry_is e s k, n, f, (placed_path (placed k.name) u v).1, is_sought fair, hb, hi, strip_append e (route k.name).path);
           target = refl;
           named = inr refl;
@@ -101,7 +102,7 @@ module _ (width : ℕ) (e : Bytes) where
         file_is (inl q) = rw q (file_path e s k.name u v)
         file_is (inr q) = rw q (file_own e s (route k.name).path u v)
 
-        no_points : Holds width e s (route k.name).path id → file_of e s n ≡ some (loose p.name p.content) → (n ≡ k.name) ⊎ (n ≡ (route k.name).path) → ⊥
+        no_points : Holds width e s (route k.name).path id → file_of e s n ≡ Some (loose p.name p.content) → (n ≡ k.name) ⊎ (n ≡ (route k.name).path) → ⊥
         no_points (as_loose c g r) i q = let j = sym (file_is q) ∙ i in let z : ◌≡◌ {A = ℕ} 0 1 = cc (g, j, r, p.reads_as) in omega arith
         no_points (as_packed t x g _ _) i q = some_none i (file_is q ∙ g)
 
@@ -109,7 +110,7 @@ module _ (width : ℕ) (e : Bytes) where
     abbrev p : Bytes
     p = (route k.name).path
 
-    clash_self : (s : Store) → clashing s k ≡ true → entry_for e s k ≡ none
+    clash_self : (s : Store) → clashing s k ≡ true → entry_for e s k ≡ None
     clash_self s n = rw (entry_is e s k, n)
 
     differs_match : Differs width e s t p → clashing s k ≡ false → clashing t k ≡ false → Match width e s (tried s k) (tried t k)
@@ -131,8 +132,8 @@ module _ (width : ℕ) (e : Bytes) where
 
     packed_alike : Alike s t (e ++ p) → (b : Bool) (q : Option Bytes) → packed_name k.name ≡ q → record_of e s b q ≡ record_of e t b q
     packed_alike a false q i = refl
-    packed_alike a true none i = refl
-    packed_alike a true (some q) i = go (cut.each (e ++ q))
+    packed_alike a true None i = refl
+    packed_alike a true (Some q) i = go (cut.each (e ++ q))
       where
         go : Each width e s t (e ++ q) → block_of (e ++ q) s.packed ≡ block_of (e ++ q) t.packed
         go (inl c) = c.in_packed

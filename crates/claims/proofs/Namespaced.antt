@@ -2,7 +2,7 @@
 use mathlib.Core.Path.{◌≡◌, refl, sym, ◌∙◌}
 use Prim.Native.Nat.{ℕ}
 use mathlib.Core.List.{[], ◌∷◌}
-use mathlib.Core.Option.{Option, none, some}
+use Rattle.std.specs.Prelude.{Option, None, Some}
 use Rattle.names.specs.Bytes.{Bytes}
 use Rattle.names.specs.Check.{Check, checked}
 use Rattle.names.proofs.Prefix.{starts_append}
@@ -31,18 +31,18 @@ module _ (width : ℕ) (s t : Snapshot) (fit : Fit width s) (fit' : Fit width t)
     e = expansion namespace
 
     pub listing_in : (n : ℕ) → handed_out (listing width s namespace n) ≡ handed_out (listing width t namespace n)
-    listing_in n = rw (listing_is s namespace width n, listing_is t namespace width n, fit.sizes, fit'.sizes) (go (names_check none namespace))
+    listing_in n = rw (listing_is s namespace width n, listing_is t namespace width n, fit.sizes, fit'.sizes) (go (names_check None namespace))
       where
         r : SameRuns width e (Without e) (scope_honest width e) (run width s n (start e)) (run width t n (start e))
         r = same_runs width e (Without e) (scope_honest width e) s t fit fit' n (start e) (start e) refl refl refl (opens_in e c)
 
         go : (k : Check) → handed_out (run_opened width s n (checked k (start e))) ≡ handed_out (run_opened width t n (checked k (start e)))
-        go none = rw (r.answers, r.ended)
-        go (some k) = refl
+        go None = rw (r.answers, r.ended)
+        go (Some k) = refl
 
     pub following_in : (x : Bytes) → outcome (follow width s x namespace) ≡ outcome (follow width t x namespace)
-    following_in x = rw (follow_is width s x namespace, follow_is width t x namespace, fit.sizes, fit'.sizes, fit.flawless, fit'.flawless) (go (names_check (some x) namespace))
+    following_in x = rw (follow_is width s x namespace, follow_is width t x namespace, fit.sizes, fit'.sizes, fit.flawless, fit'.flawless) (go (names_check (Some x) namespace))
       where
-        go : (k : Check) → outcome (after_checks k none (following width e (store width s) x)) ≡ outcome (after_checks k none (following width e (store width t) x))
-        go none = same_following width e (store width s) (store width t) c x
-        go (some k) = refl
+        go : (k : Check) → outcome (after_checks k None (following width e (store width s) x)) ≡ outcome (after_checks k None (following width e (store width t) x))
+        go None = same_following width e (store width s) (store width t) c x
+        go (Some k) = refl

@@ -6,7 +6,7 @@ use Prim.Native.Nat.{ℕ}
 use Prim.Native.String.{String}
 use mathlib.Core.List.{List, [], ◌∷◌, ◌++◌}
 use mathlib.Core.Bool.{Bool, true, false, not}
-use mathlib.Core.Option.{Option, none, some}
+use Rattle.std.specs.Prelude.{Option, None, Some}
 use lib.ListN.{replicate}
 use Rattle.names.specs.Bytes.{Bytes, bytes, same}
 use Rattle.names.specs.Check.{Checked, gives, refuses}
@@ -60,8 +60,8 @@ pub record Needed (p : Premise) : Type 0 where
   pub s : Snapshot
   pub t : Snapshot
   pub namespace : Option Bytes
-  pub alone : Keeps (some p) no_namespace (namespace ≡ none)
-  pub others : CutBut (some p) 40 s t
+  pub alone : Keeps (Some p) no_namespace (namespace ≡ None)
+  pub others : CutBut (Some p) 40 s t
   pub told : ToldApart namespace s t
 
 -- ---- the pairs
@@ -96,18 +96,18 @@ abbrev pair : Snapshot → Snapshot → List Bytes → List Line → Question �
 pair s t a d q = record { s = s; t = t; agreed = a; differing = d; question = q }
 
 abbrev namespace_of : Premise → Option Bytes
-namespace_of no_namespace = some (bytes "a")
-namespace_of both_fit = none
-namespace_of no_directory = none
-namespace_of shared_names = none
-namespace_of under_refs_only = none
-namespace_of not_remote_heads = none
-namespace_of same_id = none
-namespace_of where_search_reads = none
-namespace_of no_other_block = none
-namespace_of worktree_alike = none
-namespace_of others_agree = none
-namespace_of both_or_neither_common = none
+namespace_of no_namespace = Some (bytes "a")
+namespace_of both_fit = None
+namespace_of no_directory = None
+namespace_of shared_names = None
+namespace_of under_refs_only = None
+namespace_of not_remote_heads = None
+namespace_of same_id = None
+namespace_of where_search_reads = None
+namespace_of no_other_block = None
+namespace_of worktree_alike = None
+namespace_of others_agree = None
+namespace_of both_or_neither_common = None
 
 unfoldable pair_of : Premise → Pair
 -- in the namespace a, refs/bisect/x is read in the worktree and not in common
@@ -170,9 +170,9 @@ told_by namespace s t (follows x) h =
 holds : Premise → Bool
 holds p =
     let c = pair_of p in
-    all_true (all_true (cut_tests (some p) 40 c.s c.t c.agreed c.differing) ∷ tells (namespace_of p) c.s c.t c.question ∷ [])
+    all_true (all_true (cut_tests (Some p) 40 c.s c.t c.agreed c.differing) ∷ tells (namespace_of p) c.s c.t c.question ∷ [])
 
-alone_of : (p : Premise) → Keeps (some p) no_namespace (namespace_of p ≡ none)
+alone_of : (p : Premise) → Keeps (Some p) no_namespace (namespace_of p ≡ None)
 alone_of no_namespace = tt
 alone_of both_fit = refl
 alone_of no_directory = refl
@@ -190,13 +190,13 @@ needed_by : (p : Premise) → holds p ≡ true → Needed p
 unfolding holds
 needed_by p h =
     let c = pair_of p in
-    let test = all_true (cut_tests (some p) 40 c.s c.t c.agreed c.differing) in
+    let test = all_true (cut_tests (Some p) 40 c.s c.t c.agreed c.differing) in
     record {
       s = c.s;
       t = c.t;
       namespace = namespace_of p;
       alone = alone_of p;
-      others = cut_by (some p) 40 c.s c.t c.agreed c.differing (and_left test _ h);
+      others = cut_by (Some p) 40 c.s c.t c.agreed c.differing (and_left test _ h);
       told = told_by (namespace_of p) c.s c.t c.question (and_left (tells (namespace_of p) c.s c.t c.question) _ (and_right test _ h));
     }
 

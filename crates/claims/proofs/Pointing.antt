@@ -4,12 +4,12 @@ use Prim.Native.Nat.{ℕ}
 use native.Mathlib.Omega.{arith}
 use mathlib.Core.List.{List, [], ◌∷◌}
 use mathlib.Core.Bool.{Bool, true, false, false≢true}
-use mathlib.Core.Option.{Option, none, some}
+use Rattle.std.specs.Prelude.{Option, None, Some}
 use Rattle.names.specs.Bytes.{Bytes, same, strip}
 use Rattle.names.specs.Name.{fits}
 use Rattle.names.specs.Candidates.{Candidate, candidates}
 use Rattle.names.specs.Route.{packed_name}
-use Rattle.names.proofs.Tests.{if_case, or_eq, false_of, none≢some}
+use Rattle.names.proofs.Tests.{if_case, or_eq, false_of, none≢Some}
 use Rattle.names.proofs.Orders.{same_eq}
 use Rattle.blocks.specs.Content.{object, symbolic, Reading, reads, unreadable, read}
 use Rattle.blocks.specs.Entry.{Entry, damaged, failed, loose, unread, packed_record}
@@ -24,7 +24,7 @@ use Rattle.claims.proofs.Match.{Points}
 
 -- stripping keeps a name that has a file
 abbrev pub Keeps : Bytes → Store → Type 0
-Keeps e s = (c : Bytes) (f : Entry) → file_of e s c ≡ some f → strip e c ≡ c
+Keeps e s = (c : Bytes) (f : Entry) → file_of e s c ≡ Some f → strip e c ≡ c
 
 module _ (width : ℕ) (e : Bytes) (s : Store) where
   abbrev pub Honest : Answer → Type 0
@@ -32,36 +32,36 @@ module _ (width : ℕ) (e : Bytes) (s : Store) where
   Honest (refused k) = Unit {0}
   Honest (found r) = (t : Bytes) → r.target ≡ symbolic t → Points width e s r.name
 
-  honest_reading : (c m d : Bytes) (r : Reading) → read width d ≡ r → file_of e s c ≡ some (loose m d) → strip e c ≡ c → Honest (strip_answer e (reading_says c r))
+  honest_reading : (c m d : Bytes) (r : Reading) → read width d ≡ r → file_of e s c ≡ Some (loose m d) → strip e c ≡ c → Honest (strip_answer e (reading_says c r))
   honest_reading c m d (unreadable k) i f q = tt
   honest_reading c m d (reads (object id)) i f q = λ t h. absurd (let z : ◌≡◌ {A = ℕ} 0 1 = cc in omega arith)
   honest_reading c m d (reads (symbolic n)) i f q = λ t h. rw q (record { name = m; content = d; target = n; is = f; reads_as = i })
 
-  honest_file : (c : Bytes) (f : Entry) → file_of e s c ≡ some f → strip e c ≡ c → Honest (answer_of width e c (some f))
+  honest_file : (c : Bytes) (f : Entry) → file_of e s c ≡ Some f → strip e c ≡ c → Honest (answer_of width e c (Some f))
   honest_file c damaged h q = tt
   honest_file c failed h q = tt
   honest_file c (loose m d) h q = honest_reading c m d (read width d) refl h q
   honest_file c (unread m) h q = tt
   honest_file c (packed_record m t p) h q = λ t h. absurd (let z : ◌≡◌ {A = ℕ} 0 1 = cc in omega arith)
 
-  honest_record : (c : Bytes) (o : Option Entry) → ((f : Entry) → o ≡ some f → IsRecord f) → Honest (answer_of width e c o)
-  honest_record c none h = tt
-  honest_record c (some damaged) h = tt
-  honest_record c (some failed) h = tt
-  honest_record c (some (loose m d)) h = absurd (h (loose m d) refl)
-  honest_record c (some (unread m)) h = tt
-  honest_record c (some (packed_record m t p)) h = λ t h. absurd (let z : ◌≡◌ {A = ℕ} 0 1 = cc in omega arith)
+  honest_record : (c : Bytes) (o : Option Entry) → ((f : Entry) → o ≡ Some f → IsRecord f) → Honest (answer_of width e c o)
+  honest_record c None h = tt
+  honest_record c (Some damaged) h = tt
+  honest_record c (Some failed) h = tt
+  honest_record c (Some (loose m d)) h = absurd (h (loose m d) refl)
+  honest_record c (Some (unread m)) h = tt
+  honest_record c (Some (packed_record m t p)) h = λ t h. absurd (let z : ◌≡◌ {A = ℕ} 0 1 = cc in omega arith)
 
   module _ (keep : Keeps e s) (records : Records s) where
-    record_is : (b : Bool) (q : Option Bytes) (f : Entry) → record_of e s b q ≡ some f → IsRecord f
-    record_is false q f h = none≢some h
-    record_is true none f h = none≢some h
-    record_is true (some q) f h = records _ f h
+    record_is : (b : Bool) (q : Option Bytes) (f : Entry) → record_of e s b q ≡ Some f → IsRecord f
+    record_is false q f h = none≢Some h
+    record_is true None f h = none≢Some h
+    record_is true (Some q) f h = records _ f h
 
-    honest_deciding : (c : Bytes) (b : Bool) (o r : Option Entry) → file_of e s c ≡ o → ((f : Entry) → r ≡ some f → IsRecord f) → Honest (answer_of width e c (deciding b o r))
+    honest_deciding : (c : Bytes) (b : Bool) (o r : Option Entry) → file_of e s c ≡ o → ((f : Entry) → r ≡ Some f → IsRecord f) → Honest (answer_of width e c (deciding b o r))
     honest_deciding c true o r h i = tt
-    honest_deciding c false none r h i = honest_record c r i
-    honest_deciding c false (some f) r h i = honest_file c f h (keep c f h)
+    honest_deciding c false None r h i = honest_record c r i
+    honest_deciding c false (Some f) r h i = honest_file c f h (keep c f h)
 
     honest_lookup : (k : Candidate) → Honest (lookup width e s k)
     honest_lookup k =

@@ -2,7 +2,7 @@
 use mathlib.Core.Path.{◌≡◌, refl, sym, ap, ap₂, ◌∙◌, subst}
 use mathlib.Core.Bool.{Bool, true, false}
 use mathlib.Core.List.{◌∷◌, map}
-use mathlib.Core.Option.{Option, none}
+use Rattle.std.specs.Prelude.{Option, None}
 use Prim.Native.Nat.{ℕ, zero, suc}
 use Rattle.names.specs.Bytes.{Bytes}
 use Rattle.names.proofs.Orders.{◌≺◌}
@@ -24,9 +24,9 @@ use Rattle.claims.proofs.Least.{table, choose_does}
 -- ---- regions without a flaw
 
 pub record Ordered (s : Store) : Type 0 where
-  pub worktree : Sorted none s.worktree
-  pub common : Sorted none (or_empty s.common)
-  pub packed : Sorted none s.packed
+  pub worktree : Sorted None s.worktree
+  pub common : Sorted None (or_empty s.common)
+  pub packed : Sorted None s.packed
 
 pub ordered : (width : ℕ) (s : Snapshot) → Fit width s → Ordered (store width s)
 ordered width s h =
@@ -51,7 +51,7 @@ move_does Shown v honest s h at =
 
 -- an ended listing has nothing left
 abbrev unless_over : Bool → Option Answer → Option Answer
-unless_over true a = none
+unless_over true a = None
 unless_over false a = a
 
 does_over : (Shown : Bytes → Bytes → Type 0) {t u : Table} (a : Answer) → Does Shown t a u → Does Shown t a (λ y. unless_over (is_nothing a) (u y))
@@ -121,5 +121,5 @@ module _ (width : ℕ) (e : Bytes) (Shown : Bytes → Bytes → Type 0) (honest 
         (rising_step Shown rise d.answer b b' (state_table width e s st) (state_table width e s d.next) (run width s n d.next).answers (step_does s h st q) m c
         (rising_run s h n d.next (step_expansion width s st ∙ q)))
 
-    pub names_rise : (s : Snapshot) → Fit width s → (n : ℕ) → Rising none (run width s n (start e)).answers
-    names_rise s h n = rising_run s h n (start e) refl none none no_bound tt
+    pub names_rise : (s : Snapshot) → Fit width s → (n : ℕ) → Rising None (run width s n (start e)).answers
+    names_rise s h n = rising_run s h n (start e) refl None None no_bound tt

@@ -4,7 +4,7 @@ use mathlib.Core.Logic.{◌⊎◌, inl, inr}
 use Prim.Native.Nat.{ℕ}
 use mathlib.Core.List.{[], ◌++◌}
 use mathlib.Core.Bool.{Bool, true, false, ◌||◌}
-use mathlib.Core.Option.{Option, none, some}
+use Rattle.std.specs.Prelude.{Option, None, Some}
 use Rattle.names.specs.Bytes.{Bytes}
 use Rattle.names.specs.Name.{under_refs, directory, remote_head}
 use Rattle.names.specs.WellFormed.{well_formed}
@@ -24,7 +24,7 @@ pub record Alike (s t : Store) (n : Bytes) : Type 0 where
 
 -- what a packed region has of a name is a record
 abbrev pub Records : Store → Type 0
-Records s = (n : Bytes) (f : Entry) → block_of n s.packed ≡ some f → IsRecord f
+Records s = (n : Bytes) (f : Entry) → block_of n s.packed ≡ Some f → IsRecord f
 
 unfoldable pub held : Store → Bytes → Bool
 held s n = is_there (block_of n s.worktree) || is_there (block_of n (or_empty s.common)) || is_there (block_of n s.packed)
@@ -32,9 +32,9 @@ held s n = is_there (block_of n s.worktree) || is_there (block_of n (or_empty s.
 module _ (width : ℕ) (e : Bytes) where
   -- n, behind e, holds the id: loose where a shared name is read, or packed and not loose there
   pub data Holds (s : Store) (n id : Bytes) : Type 0 where
-    as_loose : (c : Bytes) → block_of (e ++ n) (region_at shared s) ≡ some (loose (e ++ n) c) → read width c ≡ reads (object id) → Holds s n id
-    as_packed : (t : Bytes) (p : Option Bytes) → block_of (e ++ n) (region_at shared s) ≡ none
-        → block_of (e ++ n) s.packed ≡ some (packed_record (e ++ n) t p) → lower_case t ≡ id → Holds s n id
+    as_loose : (c : Bytes) → block_of (e ++ n) (region_at shared s) ≡ Some (loose (e ++ n) c) → read width c ≡ reads (object id) → Holds s n id
+    as_packed : (t : Bytes) (p : Option Bytes) → block_of (e ++ n) (region_at shared s) ≡ None
+        → block_of (e ++ n) s.packed ≡ Some (packed_record (e ++ n) t p) → lower_case t ≡ id → Holds s n id
 
   pub record Differs (s t : Store) (n : Bytes) : Type 0 where
     pub good : well_formed (e ++ n) ≡ true

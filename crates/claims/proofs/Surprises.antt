@@ -4,7 +4,7 @@ use Prim.Native.Nat.{ℕ}
 use Prim.Native.String.{String}
 use mathlib.Core.List.{List, [], ◌∷◌, ◌++◌}
 use mathlib.Core.Bool.{true}
-use mathlib.Core.Option.{none, some}
+use Rattle.std.specs.Prelude.{None, Some}
 use lib.ListN.{replicate}
 use Rattle.names.specs.Bytes.{bytes}
 use Rattle.names.specs.Check.{gives}
@@ -25,17 +25,17 @@ answer_in (turned_away k) = refused k
 answer_in (unfit f) = refused f.number
 
 abbrev finds : Snapshot → String → Answer → Type 0
-finds s x a = answer_in (find 40 s (bytes x) none) ≡ a
+finds s x a = answer_in (find 40 s (bytes x) None) ≡ a
 
 -- in the namespace n
 abbrev ends_in : Snapshot → String → Outcome → Type 0
-ends_in s x o = outcome (follow 40 s (bytes x) (some (bytes "n"))) ≡ o
+ends_in s x o = outcome (follow 40 s (bytes x) (Some (bytes "n"))) ≡ o
 
 abbrev finds_in : Snapshot → String → Answer → Type 0
-finds_in s x a = answer_in (find 40 s (bytes x) (some (bytes "n"))) ≡ a
+finds_in s x a = answer_in (find 40 s (bytes x) (Some (bytes "n"))) ≡ a
 
 abbrev lists_in : Snapshot → ℕ → List Answer → Type 0
-lists_in s n l = handed_out (listing 40 s (some (bytes "n")) n) ≡ gives (l, true)
+lists_in s n l = handed_out (listing 40 s (Some (bytes "n")) n) ≡ gives (l, true)
 
 pub record Surprises : Type 0 where
   malformed_directory : finds (snap (file "refs/heads/a." 49) (packed "refs/heads/a./b" 50)) "a./b" nothing

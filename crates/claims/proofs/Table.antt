@@ -3,7 +3,7 @@ use mathlib.Core.Path.{◌≡◌, refl}
 use Prim.Native.String.{String}
 use mathlib.Core.List.{[], ◌∷◌, ◌++◌}
 use mathlib.Core.Bool.{true}
-use mathlib.Core.Option.{Option, none, some}
+use Rattle.std.specs.Prelude.{Option, None, Some}
 use lib.ListN.{replicate}
 use Rattle.names.specs.Bytes.{Bytes, bytes}
 use Rattle.names.specs.Check.{gives}
@@ -24,19 +24,19 @@ pub record Cases : Type 0 where
   -- name.rs
   pub pseudo_empty : is_pseudo (bytes "") ≡ true
   -- fullname.rs
-  pub empty : Is "" (some PseudoRef) ""
-  pub main : Is "main-worktree/" (some MainPseudoRef) ""
-  pub no_category : category (bytes "worktrees/w") ≡ none
-  pub linked : Is "worktrees/w/refs/heads/a" (some (LinkedRef (bytes "w"))) "refs/heads/a"
-  pub note : Is "refs/notes/a" (some Note) "notes/a"
-  pub bisect : Is "refs/bisect/a" (some Bisect) "bisect/a"
-  pub private : Is "refs/worktree/a" (some WorktreePrivate) "worktree/a"
-  pub rewritten : Is "refs/rewritten/a" (some Rewritten) "rewritten/a"
+  pub empty : Is "" (Some PseudoRef) ""
+  pub main : Is "main-worktree/" (Some MainPseudoRef) ""
+  pub no_category : category (bytes "worktrees/w") ≡ None
+  pub linked : Is "worktrees/w/refs/heads/a" (Some (LinkedRef (bytes "w"))) "refs/heads/a"
+  pub note : Is "refs/notes/a" (Some Note) "notes/a"
+  pub bisect : Is "refs/bisect/a" (Some Bisect) "bisect/a"
+  pub private : Is "refs/worktree/a" (Some WorktreePrivate) "worktree/a"
+  pub rewritten : Is "refs/rewritten/a" (Some Rewritten) "rewritten/a"
   -- the same of every name of these categories
-  pub note_keeps : (n : Bytes) → category n ≡ some Note → KeepsWord Note n (short_name n)
-  pub bisect_keeps : (n : Bytes) → category n ≡ some Bisect → KeepsWord Bisect n (short_name n)
-  pub private_keeps : (n : Bytes) → category n ≡ some WorktreePrivate → KeepsWord WorktreePrivate n (short_name n)
-  pub rewritten_keeps : (n : Bytes) → category n ≡ some Rewritten → KeepsWord Rewritten n (short_name n)
+  pub note_keeps : (n : Bytes) → category n ≡ Some Note → KeepsWord Note n (short_name n)
+  pub bisect_keeps : (n : Bytes) → category n ≡ Some Bisect → KeepsWord Bisect n (short_name n)
+  pub private_keeps : (n : Bytes) → category n ≡ Some WorktreePrivate → KeepsWord WorktreePrivate n (short_name n)
+  pub rewritten_keeps : (n : Bytes) → category n ≡ Some Rewritten → KeepsWord Rewritten n (short_name n)
   -- namespace.rs
   pub namespace : expanded (bytes "a/b") ≡ gives (bytes "refs/namespaces/a/refs/namespaces/b/")
   -- decode.rs
@@ -46,16 +46,16 @@ pub record Cases : Type 0 where
   pub then_a : read 40 (replicate 40 49 ++ bytes "a") ≡ unreadable 10
   pub invalid : read 40 (bytes "ref: refs/heads/.invalid") ≡ unreadable 12
   -- packed/find.rs
-  pub packed_main : packed_name (bytes "main-worktree/refs/heads/a") ≡ some (bytes "refs/heads/a")
-  pub not_main : packed_name (bytes "main-worktree/HEAD") ≡ none
-  pub not_pseudo : packed_name (bytes "HEAD") ≡ none
-  pub not_linked : packed_name (bytes "worktrees/w/HEAD") ≡ none
-  pub not_private : packed_name (bytes "refs/worktree/a") ≡ none
+  pub packed_main : packed_name (bytes "main-worktree/refs/heads/a") ≡ Some (bytes "refs/heads/a")
+  pub not_main : packed_name (bytes "main-worktree/HEAD") ≡ None
+  pub not_pseudo : packed_name (bytes "HEAD") ≡ None
+  pub not_linked : packed_name (bytes "worktrees/w/HEAD") ≡ None
+  pub not_private : packed_name (bytes "refs/worktree/a") ≡ None
   -- the same of every name of these categories
-  pub main_pseudo_never : (n : Bytes) → category n ≡ some MainPseudoRef → packed_name n ≡ none
-  pub pseudo_never : (n : Bytes) → category n ≡ some PseudoRef → packed_name n ≡ none
-  pub linked_pseudo_never : (n w : Bytes) → category n ≡ some (LinkedPseudoRef w) → packed_name n ≡ none
-  pub private_never : (n : Bytes) → category n ≡ some WorktreePrivate → packed_name n ≡ none
+  pub main_pseudo_never : (n : Bytes) → category n ≡ Some MainPseudoRef → packed_name n ≡ None
+  pub pseudo_never : (n : Bytes) → category n ≡ Some PseudoRef → packed_name n ≡ None
+  pub linked_pseudo_never : (n w : Bytes) → category n ≡ Some (LinkedPseudoRef w) → packed_name n ≡ None
+  pub private_never : (n : Bytes) → category n ≡ Some WorktreePrivate → packed_name n ≡ None
   -- raw_ext.rs, with the last reference reached: at 14 the one before the name seen already, at 15 the fifth
   pub cycle_of_four : stops (snap (points "A" "B" ++ (points "B" "C" ++ (points "C" "D" ++ points "D" "A"))) []) "A" 14 (pointing "A" "B")
   pub cycle_of_five : stops (snap (chain ++ points "E" "A") []) "A" 15 (pointing "A" "B")

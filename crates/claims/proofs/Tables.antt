@@ -2,7 +2,7 @@
 -- table and strikes it out; so equal tables give equal steps, whatever the regions.
 use mathlib.Core.Path.{◌≡◌, refl, sym, ap, ◌∙◌}
 use mathlib.Core.List.{List, ◌∷◌}
-use mathlib.Core.Option.{Option, none, some}
+use Rattle.std.specs.Prelude.{Option, None, Some}
 use Prim.Native.Nat.{ℕ, Ordering}
 use native.Mathlib.Omega.{arith}
 use Rattle.names.specs.Bytes.{Bytes, order}
@@ -18,10 +18,10 @@ Table = Bytes → Option Answer
 -- a name's answer, once the names up to x are handed out: o is x's order to the name
 abbrev pub beyond : Ordering → Option Answer → Option Answer
 beyond Ordering.lt a = a
-beyond Ordering.eq a = none
-beyond Ordering.gt a = none
+beyond Ordering.eq a = None
+beyond Ordering.gt a = None
 
-pub beyond_none : (o : Ordering) → beyond o none ≡ none
+pub beyond_none : (o : Ordering) → beyond o None ≡ None
 beyond_none Ordering.lt = refl
 beyond_none Ordering.eq = refl
 beyond_none Ordering.gt = refl
@@ -36,7 +36,7 @@ beyond_comm Ordering.lt p a = refl
 beyond_comm Ordering.eq p a = sym (beyond_none p)
 beyond_comm Ordering.gt p a = sym (beyond_none p)
 
-beyond_lt : (o : Ordering) {q : Option Answer} {a : Answer} → q ≡ some a → q ≡ beyond o q → o ≡ Ordering.lt
+beyond_lt : (o : Ordering) {q : Option Answer} {a : Answer} → q ≡ Some a → q ≡ beyond o q → o ≡ Ordering.lt
 beyond_lt Ordering.lt p e = refl
 beyond_lt Ordering.eq p e = some_none p e
 beyond_lt Ordering.gt p e = some_none p e
@@ -51,13 +51,13 @@ module _ (Shown : Bytes → Bytes → Type 0) where
 
   -- the table t begins with the name x, of which it has the answer a
   pub record Starts (t : Table) (x : Bytes) (a : Answer) : Type 0 where
-    pub here : t x ≡ some (compared a)
+    pub here : t x ≡ Some (compared a)
     pub named : Named x a
-    pub before : (y : Bytes) → y ≺ x → t y ≡ none
+    pub before : (y : Bytes) → y ≺ x → t y ≡ None
 
   -- a step from the table t gives the answer a and leaves the table u
   pub data Does (t : Table) (a : Answer) (u : Table) : Type 0 where
-    ends : a ≡ nothing → ((y : Bytes) → t y ≡ none) → ((y : Bytes) → u y ≡ none) → Does t a u
+    ends : a ≡ nothing → ((y : Bytes) → t y ≡ None) → ((y : Bytes) → u y ≡ None) → Does t a u
     hands : (x : Bytes) → Starts t x a → ((y : Bytes) → u y ≡ beyond (order x y) (t y)) → Does t a u
 
   pub record Both (a b : Answer) (t u : Table) : Type 0 where
@@ -80,24 +80,24 @@ module _ (Shown : Bytes → Bytes → Type 0) where
 
   -- nothing of the table is left up to the bound
   abbrev pub Clear : Option Bytes → Table → Type 0
-  Clear none t = Unit {0}
-  Clear (some b) t = (y : Bytes) → t y ≡ beyond (order b y) (t y)
+  Clear None t = Unit {0}
+  Clear (Some b) t = (y : Bytes) → t y ≡ beyond (order b y) (t y)
 
   -- a bound on names, and what it was listed as
   pub data Bound : Option Bytes → Option Bytes → Type 0 where
-    no_bound : Bound none none
-    bound : {b y : Bytes} → Shown b y → Bound (some b) (some y)
+    no_bound : Bound None None
+    bound : {b y : Bytes} → Shown b y → Bound (Some b) (Some y)
 
   clear_kept : (b : Option Bytes) (t u : Table) (x : Bytes) → Clear b t → ((y : Bytes) → u y ≡ beyond (order x y) (t y)) → Clear b u
-  clear_kept none t u x c k = tt
-  clear_kept (some b) t u x c k = λ y. k y ∙ ap (beyond (order x y)) (c y) ∙ beyond_comm (order x y) (order b y) (t y) ∙ ap (beyond (order b y)) (sym (k y))
+  clear_kept None t u x c k = tt
+  clear_kept (Some b) t u x c k = λ y. k y ∙ ap (beyond (order x y)) (c y) ∙ beyond_comm (order x y) (order b y) (t y) ∙ ap (beyond (order b y)) (sym (k y))
 
-  clear_new : (t u : Table) (x : Bytes) → ((y : Bytes) → u y ≡ beyond (order x y) (t y)) → Clear (some x) u
+  clear_new : (t u : Table) (x : Bytes) → ((y : Bytes) → u y ≡ beyond (order x y) (t y)) → Clear (Some x) u
   clear_new t u x k y = k y ∙ sym (beyond_twice (order x y) (t y)) ∙ ap (beyond (order x y)) (sym (k y))
 
-  clear_empty : (b : Option Bytes) (t : Table) → ((y : Bytes) → t y ≡ none) → Clear b t
-  clear_empty none t e = tt
-  clear_empty (some b) t e = λ y. rw (e y) (sym (beyond_none (order b y)))
+  clear_empty : (b : Option Bytes) (t : Table) → ((y : Bytes) → t y ≡ None) → Clear b t
+  clear_empty None t e = tt
+  clear_empty (Some b) t e = λ y. rw (e y) (sym (beyond_none (order b y)))
 
   module _ (rise : (x x' y y' : Bytes) → Shown x y → Shown x' y' → x ≺ x' → y ≺ y') where
     higher : {b b' : Option Bytes} {t : Table} {x y : Bytes} {a : Answer} → Bound b b' → Clear b t → Starts t x a → Shown x y → Above b' y
@@ -112,4 +112,4 @@ module _ (Shown : Bytes → Bytes → Type 0) where
     rising_step (refused n) b b' t u l (ends e f g) m c ih = absurd (let z : ◌≡◌ {A = ℕ} 0 1 = cc in omega arith)
     rising_step (refused n) b b' t u l (hands x h k) m c ih = ih b b' m (clear_kept b t u x c k)
     rising_step (found r) b b' t u l (ends e f g) m c ih = absurd (let z : ◌≡◌ {A = ℕ} 0 1 = cc in omega arith)
-    rising_step (found r) b b' t u l (hands x h k) m c ih = (higher m c h h.named, ih (some x) (some r.name) (bound h.named) (clear_new t u x k))
+    rising_step (found r) b b' t u l (hands x h k) m c ih = (higher m c h h.named, ih (Some x) (Some r.name) (bound h.named) (clear_new t u x k))

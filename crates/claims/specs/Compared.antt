@@ -1,6 +1,6 @@
 -- What is compared of two runs, and of two followings (document 01, "Two snapshots compared").
 use Rattle.std.specs.Prelude.{ℕ, List, [], ◌∷◌, map, Bool}
-use Rattle.std.proofs.Math.Option.{Option, none, some}
+use Rattle.std.specs.Prelude.{Option, None, Some}
 use Rattle.names.specs.Bytes.{Bytes}
 use Rattle.names.specs.Check.{Checked, gives, refuses}
 use Rattle.names.specs.Name.{Above}
@@ -12,7 +12,7 @@ use Rattle.refs.specs.Run.{Run}
 -- "Compared are each step's full name and target, or its number, or its answer "ended" ..; peeled ids and positions are not"
 abbrev pub compared : Answer → Answer
 compared nothing = nothing
-compared (found r) = found (record { name = r.name; target = r.target; peeled = none })
+compared (found r) = found (record { name = r.name; target = r.target; peeled = None })
 compared (refused k) = refused k
 
 -- the list handed out, and whether the listing is ended
@@ -43,5 +43,5 @@ outcome (unfit f) = number f.number
 abbrev pub Rising : Option Bytes → List Answer → Type 0
 Rising b [] = Unit {0}
 Rising b (nothing ∷ l) = Rising b l
-Rising b (found r ∷ l) = Above b r.name × Rising (some r.name) l
+Rising b (found r ∷ l) = Above b r.name × Rising (Some r.name) l
 Rising b (refused k ∷ l) = Rising b l

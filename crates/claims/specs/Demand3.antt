@@ -1,6 +1,6 @@
 -- Demand 3: two snapshots compared, in the words of document 01's section of that name.
 use Rattle.std.specs.Prelude.{◌≡◌, ◌⊎◌, ℕ, List, [], ◌∷◌, Bool, true, false, ◌&&◌, ◌||◌, eqb, take, if◌then◌else◌}
-use Rattle.std.proofs.Math.Option.{Option, none}
+use Rattle.std.specs.Prelude.{Option, None}
 use Rattle.names.specs.Bytes.{Bytes, same}
 use Rattle.names.specs.Name.{under_refs, directory, remote_head}
 use Rattle.names.specs.WellFormed.{well_formed}
@@ -105,18 +105,18 @@ module _ (width : ℕ) where
 -- names with their targets, or refusal numbers, in the same order, and are both ended or neither"
 abbrev pub ListingCut : Type 0
 ListingCut =
-    (width : ℕ) (s t : Snapshot) → Cut width s t → (n : ℕ) → handed_out (listing width s none n) ≡ handed_out (listing width t none n)
+    (width : ℕ) (s t : Snapshot) → Cut width s t → (n : ℕ) → handed_out (listing width s None n) ≡ handed_out (listing width t None n)
 
 -- "whichever well-formed name following is given, it ends in the same id, refusal number or "not there" on both"; and a
 -- malformed name, which both refuse
 abbrev pub FollowingCut : Type 0
 FollowingCut =
-    (width : ℕ) (s t : Snapshot) → Cut width s t → (x : Bytes) → outcome (follow width s x none) ≡ outcome (follow width t x none)
+    (width : ℕ) (s t : Snapshot) → Cut width s t → (x : Bytes) → outcome (follow width s x None) ≡ outcome (follow width t x None)
 
 -- "On any one snapshot fit for search, listed names rise strictly", in any namespace
 abbrev pub NamesRise : Type 0
 NamesRise =
-    (width : ℕ) (s : Snapshot) → Fit width s → (namespace : Option Bytes) (n : ℕ) → Rising none (answers_of (listing width s namespace n))
+    (width : ℕ) (s : Snapshot) → Fit width s → (namespace : Option Bytes) (n : ℕ) → Rising None (answers_of (listing width s namespace n))
 
 -- demand 3
 pub record Demand3 : Type 0 where

@@ -6,7 +6,8 @@ use native.Mathlib.Numerals.{add-one}
 use native.Mathlib.Omega.{arith}
 use mathlib.Core.List.{List, [], ◌∷◌}
 use mathlib.Core.Bool.{Bool, true, false}
-use mathlib.Core.Option.{Option, none, some, map}
+use Rattle.std.specs.Prelude.{Option, None, Some}
+use Rattle.std.specs.Option.{option_map}
 use lib.Dec.{eqb, lit≤}
 use lib.ListN.{length, drop, get_or, drop_of_length-le, length-drop}
 use lib.Seq.{drop-cons}
@@ -14,7 +15,7 @@ use borrow.Author.Tests.{eq-eqb, ne_eqb}
 use Rattle.names.specs.Bytes.{Bytes, bytes, slash, starts_with, after}
 use Rattle.names.specs.Name.{is_pseudo}
 use Rattle.names.specs.Category.{Category, Tag, LocalBranch, RemoteBranch, Note, Bisect, WorktreePrivate, Rewritten, PseudoRef, MainPseudoRef, MainRef, Class, prefix, classify_below, first_slash, classify_linked, without_prefix, without_refs, classify, off_in, short_name}
-use Rattle.names.proofs.Tests.{if_case, none≢some}
+use Rattle.names.proofs.Tests.{if_case, none≢Some}
 use Rattle.names.proofs.Prefix.{starts_length}
 
 -- ---- the tests of a category, in their order
@@ -38,7 +39,7 @@ tries s =
     ∷ []
 
 unfoldable pub first : List Try → Option Class
-first [] = none
+first [] = None
 first (t ∷ l) = if t.0 then t.1 else first l
 
 -- the first k tests have failed
@@ -55,31 +56,31 @@ module _ {k : ℕ} {s : Bytes} (l : Left k s) (h : k < 10) where
   unfolding tries
   in_range = h
 
-  pub fails : (get_or (tries s) k (false, none)).0 ≡ false → Left (k + 1) s
+  pub fails : (get_or (tries s) k (false, None)).0 ≡ false → Left (k + 1) s
   unfolding first
-  fails e = record { is = l.is ∙ rw (add-one, drop-cons (tries s) k (false, none) in_range, e) }
+  fails e = record { is = l.is ∙ rw (add-one, drop-cons (tries s) k (false, None) in_range, e) }
 
-  pub holds : (get_or (tries s) k (false, none)).0 ≡ true → classify s ≡ (get_or (tries s) k (false, none)).1
+  pub holds : (get_or (tries s) k (false, None)).0 ≡ true → classify s ≡ (get_or (tries s) k (false, None)).1
   unfolding first
-  holds e = l.is ∙ rw (drop-cons (tries s) k (false, none) in_range, e)
+  holds e = l.is ∙ rw (drop-cons (tries s) k (false, None) in_range, e)
 
 -- ---- the first slash
 
 -- a place counted from i on
 abbrev pub from : ℕ → Option ℕ → Option ℕ
-from i o = map (λ k. i + k) o
+from i o = option_map (λ k. i + k) o
 
 pub from_start : (o : Option ℕ) → from 0 o ≡ o
-from_start none = refl
-from_start (some k) = let e : 0 + k ≡ k = omega arith in rw e
+from_start None = refl
+from_start (Some k) = let e : 0 + k ≡ k = omega arith in rw e
 
-from_next : (i : ℕ) (o : Option ℕ) → from i (map (λ k. suc k) o) ≡ from (i + 1) o
-from_next i none = refl
-from_next i (some k) = let e : i + suc k ≡ i + 1 + k = omega arith in rw e
+from_next : (i : ℕ) (o : Option ℕ) → from i (option_map (λ k. suc k) o) ≡ from (i + 1) o
+from_next i None = refl
+from_next i (Some k) = let e : i + suc k ≡ i + 1 + k = omega arith in rw e
 
 -- one turn of a loop over bytes, and its end
 module _ (s : Bytes) (i : ℕ) where
-  pub slash_here : i < length s → get_or s i 0 ≡ slash → from i (first_slash (drop i s)) ≡ some i
+  pub slash_here : i < length s → get_or s i 0 ≡ slash → from i (first_slash (drop i s)) ≡ Some i
   unfolding first_slash
   slash_here h e = let z : i + 0 ≡ i = omega arith in rw (drop-cons s i 0 h, eq-eqb (get_or s i 0) slash e, z)
 
@@ -87,20 +88,20 @@ module _ (s : Bytes) (i : ℕ) where
   unfolding first_slash
   slash_later h e = rw (add-one, drop-cons s i 0 h, ne_eqb (get_or s i 0) slash e) (rw add-one at (from_next i (first_slash (drop (suc i) s))))
 
-  pub slash_nowhere : length s ≤ i → from i (first_slash (drop i s)) ≡ none
+  pub slash_nowhere : length s ≤ i → from i (first_slash (drop i s)) ≡ None
   unfolding first_slash
   slash_nowhere h = rw (drop_of_length-le s h)
 
-pub slash_in : (s : Bytes) (i : ℕ) → first_slash s ≡ some i → i < length s
+pub slash_in : (s : Bytes) (i : ℕ) → first_slash s ≡ Some i → i < length s
 unfolding first_slash
-slash_in [] i e = none≢some e
+slash_in [] i e = none≢Some e
 slash_in (b ∷ s) i e = go (eqb b slash) e (first_slash s) refl (slash_in s)
   where
-    go : (t : Bool) → (if t then some 0 else map (λ k. suc k) (first_slash s)) ≡ some i
-        → (o : Option ℕ) → first_slash s ≡ o → ((j : ℕ) → first_slash s ≡ some j → j < length s) → i < suc (length s)
+    go : (t : Bool) → (if t then Some 0 else option_map (λ k. suc k) (first_slash s)) ≡ Some i
+        → (o : Option ℕ) → first_slash s ≡ o → ((j : ℕ) → first_slash s ≡ Some j → j < length s) → i < suc (length s)
     go true h o f ih = let z : 0 ≡ i = cc in omega arith
-    go false h none f ih = none≢some (rw f at h)
-    go false h (some j) f ih = let l = ih j f in let z : some (suc j) ≡ some i = rw f at h in let y : suc j ≡ i = cc in omega arith
+    go false h None f ih = none≢Some (rw f at h)
+    go false h (Some j) f ih = let l = ih j f in let z : Some (suc j) ≡ Some i = rw f at h in let y : suc j ≡ i = cc in omega arith
 
 -- ---- what is taken off is there
 
@@ -112,8 +113,8 @@ off_below s ref pseudo off rest h =
 
 off_linked : (s : Bytes) → 10 ≤ length s → (o : Option ℕ) → first_slash (drop 10 s) ≡ o → off_in (classify_linked (drop 10 s) o) ≤ length s
 unfolding classify_linked
-off_linked s h none e = omega arith
-off_linked s h (some i) e = off_below s _ _ _ _ (omega (arith, rw length-drop at (slash_in (drop 10 s) i e)))
+off_linked s h None e = omega arith
+off_linked s h (Some i) e = off_below s _ _ _ _ (omega (arith, rw length-drop at (slash_in (drop 10 s) i e)))
 
 -- a test that is met by a beginning
 off_of : (s p : Bytes) (a b : Option Class) → off_in a ≤ length p → off_in b ≤ length s → off_in (if starts_with p s then a else b) ≤ length s

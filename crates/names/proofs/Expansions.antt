@@ -7,7 +7,8 @@ use native.Mathlib.Numerals.{add-one}
 use native.Mathlib.Omega.{arith}
 use mathlib.Core.Bool.{Bool, true, false}
 use mathlib.Core.List.{[], ◌∷◌, ◌++◌, append_assoc, append-nil}
-use mathlib.Core.Option.{Option, none, some, map}
+use Rattle.std.specs.Prelude.{Option, None, Some}
+use Rattle.std.specs.Option.{option_map}
 use lib.Dec.{leb, eqb}
 use lib.ListN.{length, take, drop, get_or, length-append, length-drop, drop_of_length-le}
 use lib.Seq.{drop-cons}
@@ -28,18 +29,18 @@ use Rattle.names.proofs.Held.{filled_is, filled_fits, filled_longer}
 -- ---- the first component ends at the first slash
 
 abbrev before : Option ℕ → Bytes → Bytes
-before none s = s
-before (some i) s = take i s
+before None s = s
+before (Some i) s = take i s
 
 before_slash : (s : Bytes) → before (first_slash s) s ≡ first_part s
 unfolding first_slash first_part
 before_slash [] = refl
 before_slash (b ∷ s) = go (eqb b slash) (first_slash s) (before_slash s)
   where
-    go : (t : Bool) (o : Option ℕ) → before o s ≡ first_part s → before (if t then some 0 else map (λ i. suc i) o) (b ∷ s) ≡ (if t then [] else b ∷ first_part s)
+    go : (t : Bool) (o : Option ℕ) → before o s ≡ first_part s → before (if t then Some 0 else option_map (λ i. suc i) o) (b ∷ s) ≡ (if t then [] else b ∷ first_part s)
     go true o ih = refl
-    go false none ih = ap (λ (l : Bytes). b ∷ l) ih
-    go false (some i) ih = ap (λ (l : Bytes). b ∷ l) ih
+    go false None ih = ap (λ (l : Bytes). b ∷ l) ih
+    go false (Some i) ih = ap (λ (l : Bytes). b ∷ l) ih
 
 module _ (s : Bytes) (r : Slash) (e : slash_found r ≡ first_slash s) where
   pub part_to : (i : ℕ) → r ≡ At i → take i s ≡ first_part s
@@ -105,7 +106,7 @@ module _ (s : Bytes) (start : ℕ) (x : Bytes) where
       rw (le-leb start (length s) h, rest_parts (drop start s), from_drop s start (length (first_part (drop start s)) + 1) h, k) (simp append_assoc)
 
   -- behind the last one all is there
-  pub turns_end : length s < start → fits x ≡ true → expand s ≡ x ++ expand_from s start → some x ≡ if_fits (expand s)
+  pub turns_end : length s < start → fits x ≡ true → expand s ≡ x ++ expand_from s start → Some x ≡ if_fits (expand s)
   turns_end h f i = rw (i, lt-leb start (length s) h, append-nil, f)
 
 module _ (s : Bytes) (start : ℕ) (h : start ≤ length s) (p : Bytes) (q : p ≡ first_part (take (length s - start) (drop start s))) where
@@ -124,7 +125,7 @@ module _ (s : Bytes) (start : ℕ) (h : start ≤ length s) (p : Bytes) (q : p �
         let w = filled_is b (with_part s start x p) f e k g in
         (rw w (filled_fits b (with_part s start x p) f e k g), rw w next)
 
-    pub part_refused : f ≡ TooLong → none ≡ if_fits (expand s)
+    pub part_refused : f ≡ TooLong → None ≡ if_fits (expand s)
     part_refused g = filled_longer b (with_part s start x p) f e (expand s) (rw next (simp length-append (omega arith))) g
 
 -- ---- the length of the expansion, byte by byte

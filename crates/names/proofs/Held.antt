@@ -5,7 +5,7 @@ use Prim.Native.Nat.{ℕ, ◌+◌, ◌-◌, ◌≤◌, ◌<◌}
 use native.Mathlib.Omega.{arith}
 use mathlib.Core.Bool.{Bool, true, false}
 use mathlib.Core.List.{[], ◌++◌}
-use mathlib.Core.Option.{none, some}
+use Rattle.std.specs.Prelude.{None, Some}
 use lib.ListN.{length, take, length-append, length-take}
 use lib.Seq.{take_all}
 use borrow.Author.Tests.{leb-true, leb-false, le-leb, lt-leb}
@@ -20,18 +20,18 @@ use Rattle.output.specs.Pasted.{pasted}
 use Rattle.output.proofs.Pastes.{pasted_both, pasted_taken, put_pasted}
 use Rattle.names.specs.declared.name.Filled.{Filled}
 use Rattle.names.specs.declared.name.Filled.TheVariants.{To, TooLong}
-use Rattle.names.proofs.Tests.{none≢some}
+use Rattle.names.proofs.Tests.{none≢Some}
 use Rattle.names.proofs.Parts.{held_is}
 
-both_ok : (k f : Bool) (b s : Bytes) → (if k then some b else none) ≡ (if f then some s else none) → k ≡ f
+both_ok : (k f : Bool) (b s : Bytes) → (if k then Some b else None) ≡ (if f then Some s else None) → k ≡ f
 both_ok true true b s e = refl
-both_ok true false b s e = none≢some (sym e)
-both_ok false true b s e = none≢some e
+both_ok true false b s e = none≢Some (sym e)
+both_ok false true b s e = none≢Some e
 both_ok false false b s e = refl
 
-both_held : (f : Bool) (b s : Bytes) → some b ≡ (if f then some s else none) → b ≡ s
+both_held : (f : Bool) (b s : Bytes) → Some b ≡ (if f then Some s else None) → b ≡ s
 both_held true b s e = cc
-both_held false b s e = none≢some (sym e)
+both_held false b s e = none≢Some (sym e)
 
 -- bytes that were put in front
 module _ (b s : Bytes) (f : Filled) (e : filled b f ≡ if_fits s) where
@@ -44,7 +44,7 @@ module _ (b s : Bytes) (f : Filled) (e : filled b f ≡ if_fits s) where
   pub filled_refused : f ≡ TooLong → fits s ≡ false
   filled_refused g = sym (both_ok false (fits s) [] s (rw g at e))
 
-  pub filled_longer : (t : Bytes) → length s ≤ length t → f ≡ TooLong → none ≡ if_fits t
+  pub filled_longer : (t : Bytes) → length s ≤ length t → f ≡ TooLong → None ≡ if_fits t
   filled_longer t h g =
       let l = leb-false (length s) longest (filled_refused g) in
       rw (lt-leb (length t) longest (omega arith))
@@ -66,15 +66,15 @@ fill_held b s b₁ k h e l = rw (e, pasted_taken b s k (omega (arith, l.1)) l.0)
     go false f = let m : k ≡ longest = omega (arith, l.1, l.2 (leb-false (length s) k f)) in rw m
 
 -- what fits is held whole
-pub fill_fits : (s t : Bytes) → t ≡ take longest s → (if fits s then some t else none) ≡ if_fits s
+pub fill_fits : (s t : Bytes) → t ≡ take longest s → (if fits s then Some t else None) ≡ if_fits s
 fill_fits s t e = go (fits s) refl
   where
-    go : (f : Bool) → fits s ≡ f → (if f then some t else none) ≡ (if f then some s else none)
+    go : (f : Bool) → fits s ≡ f → (if f then Some t else None) ≡ (if f then Some s else None)
     go true f = rw (e, take_all longest s (leb-true (length s) longest f))
     go false f = refl
 
 -- what is refused unless it fits
-cut_checked : (s t : Bytes) → t ≡ take longest s → (c : Check) → (fits s ≡ false → c ≡ some 3) → checked c t ≡ checked c s
+cut_checked : (s t : Bytes) → t ≡ take longest s → (c : Check) → (fits s ≡ false → c ≡ Some 3) → checked c t ≡ checked c s
 cut_checked s t e c h = go (fits s) refl
   where
     go : (f : Bool) → fits s ≡ f → checked c t ≡ checked c s
@@ -82,9 +82,9 @@ cut_checked s t e c h = go (fits s) refl
     go false f = rw (h f)
 
 module _ (s t : Bytes) (e : t ≡ take longest s) where
-  pub cut_partial : checked (names_check (some s) none) t ≡ checked (names_check (some s) none) s
+  pub cut_partial : checked (names_check (Some s) None) t ≡ checked (names_check (Some s) None) s
   unfolding names_check
-  cut_partial = cut_checked s t e (names_check (some s) none) (λ f. rw f)
+  cut_partial = cut_checked s t e (names_check (Some s) None) (λ f. rw f)
 
   pub cut_full : checked (full_check s) t ≡ full_checked s
   unfolding full_checked
@@ -110,16 +110,16 @@ module _ (b : Bytes) (at i : ℕ) (h : length b ≡ longest) (n : (i ≤ at) × 
   together : length (held b at ++ (a ++ (s ++ t))) ≡ i + length a + length s + length t
   together = rw (← kept) (simp (length-append, length-take) (omega (arith, n.1)))
 
-  pub behind_refused : r ≡ false → none ≡ if_fits (held b at ++ (a ++ (s ++ t)))
+  pub behind_refused : r ≡ false → None ≡ if_fits (held b at ++ (a ++ (s ++ t)))
   behind_refused f = rw (together, ← e, f)
 
   pub behind_room : r ≡ true → i + length a + length s + length t ≤ longest
   behind_room f = leb-true (i + length a + length s + length t) longest (sym e ∙ f)
 
   pub behind_held : r ≡ true → (b₁ b₂ b₃ : Bytes) → b₁ ≡ pasted b i a → b₂ ≡ pasted b₁ (i + length a) s → b₃ ≡ pasted b₂ (i + length a + length s) t
-      → some (held b₃ (i + length a + length s + length t)) ≡ if_fits (held b at ++ (a ++ (s ++ t)))
+      → Some (held b₃ (i + length a + length s + length t)) ≡ if_fits (held b at ++ (a ++ (s ++ t)))
   behind_held f b₁ b₂ b₃ p q o =
       let w : b₃ ≡ pasted b i (a ++ (s ++ t)) = rw (o, q, p, pasted_both (pasted b i a) (i + length a) s t) (pasted_both b i a (s ++ t)) in
       let m : i + length a + length s + length t ≡ i + length (a ++ (s ++ t)) = simp length-append (omega arith) in
       let text = (put_pasted b i (a ++ (s ++ t)) b₃ (omega (arith, m, behind_room f)) w).text in
-      rw (together, ← e, f) (ap some (rw (m, ← kept) (held_is b₃ _ ∙ text)))
+      rw (together, ← e, f) (ap Some (rw (m, ← kept) (held_is b₃ _ ∙ text)))

@@ -4,7 +4,7 @@ use mathlib.Core.Path.{◌≡◌, refl, ap}
 use Prim.Native.Nat.{ℕ, ◌+◌}
 use mathlib.Core.List.{[], ◌∷◌, ◌++◌}
 use mathlib.Core.Bool.{Bool, true, false, false≢true}
-use mathlib.Core.Option.{Option, none, some}
+use Rattle.std.specs.Prelude.{Option, None, Some}
 use mathlib.Core.Logic.{◌⊎◌, inl, inr}
 use lib.Dec.{eqb}
 use lib.ListN.{take, drop}
@@ -32,19 +32,19 @@ refs_begins_r (b ∷ n) h = rw (and_left (eqb 114 b) _ h)
 -- ---- what a category says of the name and the short name
 
 abbrev Facts : Option Category → Bytes → Bytes → Type 0
-Facts none c sn = Unit {0}
-Facts (some Tag) c sn = Unit {0}
-Facts (some LocalBranch) c sn = Unit {0}
-Facts (some RemoteBranch) c sn = Unit {0}
-Facts (some Note) c sn = Unit {0}
-Facts (some Bisect) c sn = Unit {0}
-Facts (some WorktreePrivate) c sn = Unit {0}
-Facts (some Rewritten) c sn = Unit {0}
-Facts (some PseudoRef) c sn = Unit {0}
-Facts (some MainPseudoRef) c sn = (begins_r c ≡ false) × (under_refs sn ≡ false)
-Facts (some MainRef) c sn = begins_r c ≡ false
-Facts (some (LinkedPseudoRef w)) c sn = begins_r c ≡ false
-Facts (some (LinkedRef w)) c sn = begins_r c ≡ false
+Facts None c sn = Unit {0}
+Facts (Some Tag) c sn = Unit {0}
+Facts (Some LocalBranch) c sn = Unit {0}
+Facts (Some RemoteBranch) c sn = Unit {0}
+Facts (Some Note) c sn = Unit {0}
+Facts (Some Bisect) c sn = Unit {0}
+Facts (Some WorktreePrivate) c sn = Unit {0}
+Facts (Some Rewritten) c sn = Unit {0}
+Facts (Some PseudoRef) c sn = Unit {0}
+Facts (Some MainPseudoRef) c sn = (begins_r c ≡ false) × (under_refs sn ≡ false)
+Facts (Some MainRef) c sn = begins_r c ≡ false
+Facts (Some (LinkedPseudoRef w)) c sn = begins_r c ≡ false
+Facts (Some (LinkedRef w)) c sn = begins_r c ≡ false
 
 abbrev FactsOf : Bytes → Option Class → Type 0
 FactsOf c o = Facts (category_in o) c (drop (off_in o) c)
@@ -56,8 +56,8 @@ facts_main c h =
 
 facts_linked : (c : Bytes) → begins_r c ≡ false → (i : Option ℕ) → FactsOf c (classify_linked (drop 10 c) i)
 unfolding classify_below classify_linked
-facts_linked c h none = tt
-facts_linked c h (some i) =
+facts_linked c h None = tt
+facts_linked c h (Some i) =
     if_case (FactsOf c) (under_refs (drop (i + 1) (drop 10 c))) (λ _. h) (λ _. if_case (FactsOf c) (is_pseudo (drop (i + 1) (drop 10 c))) (λ _. h) (λ _. tt))
 
 facts_class : (c : Bytes) → FactsOf c (classify c)
@@ -85,35 +85,35 @@ facts c = facts_class c
 -- ---- the six ways
 
 pub data Placed (c : Bytes) : Place → Option Bytes → Type 0 where
-  itself : Placed c (at shared c) (some c)
-  below : {n : Bytes} → begins_r c ≡ false → Placed c (at shared n) (some n)
-  own_packed : is_private c ≡ true → Placed c (at own c) (some c)
-  own_only : is_private c ≡ true → Placed c (at own c) none
-  apart_packed : {q : Bytes} → begins_r c ≡ false → is_private q ≡ true → Placed c (at shared c) (some q)
-  apart : {p : Bytes} → begins_r c ≡ false → under_refs p ≡ false → Placed c (at shared p) none
+  itself : Placed c (at shared c) (Some c)
+  below : {n : Bytes} → begins_r c ≡ false → Placed c (at shared n) (Some n)
+  own_packed : is_private c ≡ true → Placed c (at own c) (Some c)
+  own_only : is_private c ≡ true → Placed c (at own c) None
+  apart_packed : {q : Bytes} → begins_r c ≡ false → is_private q ≡ true → Placed c (at shared c) (Some q)
+  apart : {p : Bytes} → begins_r c ≡ false → under_refs p ≡ false → Placed c (at shared p) None
 
 not_r : (c : Bytes) → begins_r c ≡ false → under_refs c ≡ false
 not_r c h = false_of (under_refs c) (λ e. not_both (refs_begins_r c e) h)
 
-placed_linked : (c sn : Bytes) → begins_r c ≡ false → (b : Bool) → is_private sn ≡ b → Placed c (at shared (if b then c else sn)) (some sn)
+placed_linked : (c sn : Bytes) → begins_r c ≡ false → (b : Bool) → is_private sn ≡ b → Placed c (at shared (if b then c else sn)) (Some sn)
 placed_linked c sn h true e = apart_packed h e
 placed_linked c sn h false e = below h
 
 placed_as : (k : Option Category) (c sn : Bytes) → Facts k c sn → category c ≡ k → Placed c (route_as k c sn) (packed_as k c sn)
 unfolding route_as packed_as is_private
-placed_as none c sn f e = itself
-placed_as (some Tag) c sn f e = itself
-placed_as (some LocalBranch) c sn f e = itself
-placed_as (some RemoteBranch) c sn f e = itself
-placed_as (some Note) c sn f e = itself
-placed_as (some Bisect) c sn f e = own_packed (ap private_category e)
-placed_as (some WorktreePrivate) c sn f e = own_only (ap private_category e)
-placed_as (some Rewritten) c sn f e = own_packed (ap private_category e)
-placed_as (some PseudoRef) c sn f e = own_only (ap private_category e)
-placed_as (some MainPseudoRef) c sn f e = apart f.0 f.1
-placed_as (some MainRef) c sn f e = below f
-placed_as (some (LinkedPseudoRef w)) c sn f e = apart f (not_r c f)
-placed_as (some (LinkedRef w)) c sn f e = placed_linked c sn f (is_private sn) refl
+placed_as None c sn f e = itself
+placed_as (Some Tag) c sn f e = itself
+placed_as (Some LocalBranch) c sn f e = itself
+placed_as (Some RemoteBranch) c sn f e = itself
+placed_as (Some Note) c sn f e = itself
+placed_as (Some Bisect) c sn f e = own_packed (ap private_category e)
+placed_as (Some WorktreePrivate) c sn f e = own_only (ap private_category e)
+placed_as (Some Rewritten) c sn f e = own_packed (ap private_category e)
+placed_as (Some PseudoRef) c sn f e = own_only (ap private_category e)
+placed_as (Some MainPseudoRef) c sn f e = apart f.0 f.1
+placed_as (Some MainRef) c sn f e = below f
+placed_as (Some (LinkedPseudoRef w)) c sn f e = apart f (not_r c f)
+placed_as (Some (LinkedRef w)) c sn f e = placed_linked c sn f (is_private sn) refl
 
 pub placed : (c : Bytes) → Placed c (route c) (packed_name c)
 unfolding route packed_name
@@ -132,7 +132,7 @@ module _ {c : Bytes} where
   placed_own (apart h _) u = not_both u h
 
   -- a name whose path is a shared name under refs/ is read in the shared region, and sought packed under that path
-  pub placed_path : {pl : Place} {q : Option Bytes} → Placed c pl q → under_refs pl.path ≡ true → is_private pl.path ≡ false → (pl.base ≡ shared) × (q ≡ some pl.path)
+  pub placed_path : {pl : Place} {q : Option Bytes} → Placed c pl q → under_refs pl.path ≡ true → is_private pl.path ≡ false → (pl.base ≡ shared) × (q ≡ Some pl.path)
   placed_path itself u v = (refl, refl)
   placed_path (below h) u v = (refl, refl)
   placed_path (own_packed h) u v = not_both h v
@@ -141,7 +141,7 @@ module _ {c : Bytes} where
   placed_path (apart _ h) u v = not_both u h
 
   -- a name whose path is under refs/ is sought packed under that path, or not at all
-  pub placed_under : {pl : Place} {q : Option Bytes} → Placed c pl q → under_refs pl.path ≡ true → (q ≡ some pl.path) ⊎ (q ≡ none)
+  pub placed_under : {pl : Place} {q : Option Bytes} → Placed c pl q → under_refs pl.path ≡ true → (q ≡ Some pl.path) ⊎ (q ≡ None)
   placed_under itself u = inl refl
   placed_under (below h) u = inl refl
   placed_under (own_packed h) u = inl refl
@@ -150,7 +150,7 @@ module _ {c : Bytes} where
   placed_under (apart _ h) u = not_both u h
 
   -- a name sought packed under a shared name has that name for its path
-  pub placed_packed : {pl : Place} {q : Option Bytes} (n : Bytes) → Placed c pl q → q ≡ some n → is_private n ≡ false → pl.path ≡ n
+  pub placed_packed : {pl : Place} {q : Option Bytes} (n : Bytes) → Placed c pl q → q ≡ Some n → is_private n ≡ false → pl.path ≡ n
   placed_packed n itself e v = cc
   placed_packed n (below h) e v = cc
   placed_packed n (own_packed h) e v = cc
@@ -162,11 +162,11 @@ module _ {c : Bytes} where
 
 module _ (s : Bytes) (k : code.Class) (e : class_of s k ≡ classify s) where
   module _ (c : code-category.Category) (off : ℕ) (told : k ≡ As c off) where
-    pub route_class : route s ≡ route_as (some (category_with (λ j. take j (drop 10 s)) c)) s (drop off s)
+    pub route_class : route s ≡ route_as (Some (category_with (λ j. take j (drop 10 s)) c)) s (drop off s)
     unfolding route category short_name
     route_class = rw (← e, told)
 
-    pub packed_class : packed_name s ≡ packed_as (some (category_with (λ j. take j (drop 10 s)) c)) s (drop off s)
+    pub packed_class : packed_name s ≡ packed_as (Some (category_with (λ j. take j (drop 10 s)) c)) s (drop off s)
     unfolding packed_name category short_name
     packed_class = rw (← e, told)
 
@@ -175,7 +175,7 @@ module _ (s : Bytes) (k : code.Class) (e : class_of s k ≡ classify s) where
     unfolding route route_as category
     route_none = rw (← e, told)
 
-    pub packed_none : packed_name s ≡ some s
+    pub packed_none : packed_name s ≡ Some s
     unfolding packed_name packed_as category
     packed_none = rw (← e, told)
 

@@ -1,6 +1,7 @@
 -- Categories and short names (fullname.rs, name.rs).
 use Rattle.std.specs.Prelude.{ℕ, suc, ◌+◌, [], ◌∷◌, ◌++◌, Bool, true, false, ◌&&◌, eqb, length, take, drop, if◌then◌else◌}
-use Rattle.std.proofs.Math.Option.{Option, none, some, map}
+use Rattle.std.specs.Prelude.{Option, None, Some}
+use Rattle.std.specs.Option.{option_map}
 use Rattle.names.specs.Bytes.{Bytes, bytes, slash, starts_with, after, strip}
 use Rattle.names.specs.Check.{unless, ◌or_else◌, Checked, checked}
 use Rattle.names.specs.Name.{fits, is_pseudo}
@@ -36,24 +37,24 @@ pub record Class : Type 0 where
 
 -- a category that takes off so many bytes
 abbrev pub class : Category → ℕ → Option Class
-class c off = some (record { category = c; off = off })
+class c off = Some (record { category = c; off = off })
 
 -- what stands behind `main-worktree/` or a worktree's name, from byte `off` of the name on
 unfoldable pub classify_below : Category → Category → ℕ → Bytes → Option Class
 classify_below ref pseudo off rest =
     if starts_with (bytes "refs/") rest then class ref off
     else if is_pseudo rest then class pseudo off
-    else none
+    else None
 
 -- where the first slash is
 unfoldable pub first_slash : Bytes → Option ℕ
-first_slash [] = none
-first_slash (b ∷ s) = if eqb b slash then some 0 else map (λ i. suc i) (first_slash s)
+first_slash [] = None
+first_slash (b ∷ s) = if eqb b slash then Some 0 else option_map (λ i. suc i) (first_slash s)
 
 -- what stands behind `worktrees/`: the worktree's name up to the first slash, and what stands behind that
 unfoldable pub classify_linked : Bytes → Option ℕ → Option Class
-classify_linked rest none = none
-classify_linked rest (some i) =
+classify_linked rest None = None
+classify_linked rest (Some i) =
     classify_below (LinkedRef (take i rest)) (LinkedPseudoRef (take i rest)) (length (bytes "worktrees/") + (i + 1)) (drop (i + 1) rest)
 
 -- the category c of a name that begins with its prefix, which is taken off
@@ -79,19 +80,19 @@ classify s =
     classify_below MainRef MainPseudoRef (length (bytes "main-worktree/")) (after (bytes "main-worktree/") s)
     else if starts_with (bytes "worktrees/") s then
     (let rest = after (bytes "worktrees/") s in classify_linked rest (first_slash rest))
-    else none
+    else None
 
 -- ---- what is read off it
 
 -- no category where the name has no class
 abbrev pub category_in : Option Class → Option Category
-category_in none = none
-category_in (some k) = some k.category
+category_in None = None
+category_in (Some k) = Some k.category
 
 -- nothing is taken off where there is no category
 abbrev pub off_in : Option Class → ℕ
-off_in none = 0
-off_in (some k) = k.off
+off_in None = 0
+off_in (Some k) = k.off
 
 -- `category`
 unfoldable pub category : Bytes → Option Category
@@ -103,19 +104,19 @@ short_name s = drop (off_in (classify s)) s
 
 -- `is_worktree_private`
 abbrev pub private_category : Option Category → Bool
-private_category none = false
-private_category (some Tag) = false
-private_category (some LocalBranch) = false
-private_category (some RemoteBranch) = false
-private_category (some Note) = false
-private_category (some Bisect) = true
-private_category (some WorktreePrivate) = true
-private_category (some Rewritten) = true
-private_category (some PseudoRef) = true
-private_category (some MainPseudoRef) = true
-private_category (some MainRef) = false
-private_category (some (LinkedPseudoRef w)) = true
-private_category (some (LinkedRef w)) = false
+private_category None = false
+private_category (Some Tag) = false
+private_category (Some LocalBranch) = false
+private_category (Some RemoteBranch) = false
+private_category (Some Note) = false
+private_category (Some Bisect) = true
+private_category (Some WorktreePrivate) = true
+private_category (Some Rewritten) = true
+private_category (Some PseudoRef) = true
+private_category (Some MainPseudoRef) = true
+private_category (Some MainRef) = false
+private_category (Some (LinkedPseudoRef w)) = true
+private_category (Some (LinkedRef w)) = false
 
 -- "Private is as `is_worktree_private` says, shared is every other name."
 unfoldable pub is_private : Bytes → Bool

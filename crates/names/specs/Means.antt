@@ -1,6 +1,6 @@
 -- What the code's types mean.
 use Prim.Native.Nat.{ℕ, Ordering}
-use Rattle.std.proofs.Math.Option.{Option, none, some}
+use Rattle.std.specs.Prelude.{Option, None, Some}
 use Rattle.std.specs.Prelude.{take, drop, if◌then◌else◌}
 use Rattle.names.specs.Bytes.{Bytes, bytes, after}
 use Rattle.names.specs.Check.{Check, unless, ◌or_else◌, Checked, checked}
@@ -66,16 +66,16 @@ expansion_content n = content n.0
 
 -- the bytes of a name that was made, if it was
 abbrev pub made_name : Made → Option Bytes
-made_name r = if r.ok then some (content r.name) else none
+made_name r = if r.ok then Some (content r.name) else None
 
 -- the bytes that were put in front, if they found room
 abbrev pub filled : Bytes → Filled → Option Bytes
-filled b (put.To k) = some (held b k)
-filled b put.TooLong = none
+filled b (put.To k) = Some (held b k)
+filled b put.TooLong = None
 
 -- what a name can hold
 abbrev pub if_fits : Bytes → Option Bytes
-if_fits s = if fits s then some s else none
+if_fits s = if fits s then Some s else None
 
 -- ---- checks
 
@@ -87,8 +87,8 @@ number ExpansionTooLong = 5
 
 -- a verdict as a check
 abbrev pub check_of : Verdict → Check
-check_of Accepted = none
-check_of (Refused r) = some (number r)
+check_of Accepted = None
+check_of (Refused r) = Some (number r)
 
 -- names that were checked: the bytes, or the number
 abbrev pub checked_partial : CheckedPartial → Checked Bytes
@@ -114,8 +114,8 @@ full_checked s = checked (full_check s) s
 
 -- where a slash was found
 abbrev pub slash_found : Slash → Option ℕ
-slash_found (At i) = some i
-slash_found Nowhere = none
+slash_found (At i) = Some i
+slash_found Nowhere = None
 
 -- a category whose worktree's name of k bytes is w k
 abbrev pub category_with : (ℕ → Bytes) → code.Category → Category
@@ -135,7 +135,7 @@ category_with w variant.WorktreePrivate = WorktreePrivate
 -- a class, with the worktree's name told in the same way
 abbrev pub class_with : (ℕ → Bytes) → code-class.Class → Option Class
 class_with w (As c off) = class (category_with w c) off
-class_with w Unclassified = none
+class_with w Unclassified = None
 
 -- the class of the name s, where a worktree's name stands behind `worktrees/`
 abbrev pub class_of : Bytes → code-class.Class → Option Class
@@ -154,5 +154,5 @@ place_of s r = at (base_of r.base) (drop r.off s)
 
 -- under which name s is sought packed
 abbrev pub packed_of : Bytes → Packed → Option Bytes
-packed_of s (From off) = some (drop off s)
-packed_of s Never = none
+packed_of s (From off) = Some (drop off s)
+packed_of s Never = None

@@ -1,7 +1,7 @@
 -- Names (name.rs).
 use Rattle.std.specs.Prelude.{◌≡◌, ℕ, ◌++◌, Bool, ◌&&◌, ◌||◌, leb, eqb, length}
 use Prim.Native.Nat.{Ordering}
-use Rattle.std.proofs.Math.Option.{Option, none, some}
+use Rattle.std.specs.Prelude.{Option, None, Some}
 use Rattle.names.specs.Bytes.{Bytes, bytes, order, starts_with, ends_with, every, after}
 
 -- the longest name: "name length, at most 250"
@@ -42,5 +42,5 @@ under_refs s = starts_with (bytes "refs/") s
 
 -- n is above the name before, if there is one
 abbrev pub Above : Option Bytes → Bytes → Type 0
-Above none n = Unit {0}
-Above (some before) n = order before n ≡ Ordering.lt
+Above None n = Unit {0}
+Above (Some before) n = order before n ≡ Ordering.lt

@@ -1,6 +1,6 @@
 -- Namespaces (namespace.rs).
 use Rattle.std.specs.Prelude.{[], ◌∷◌, ◌++◌, Bool, true, ◌&&◌, eqb, if◌then◌else◌}
-use Rattle.std.proofs.Math.Option.{Option, none, some}
+use Rattle.std.specs.Prelude.{Option, None, Some}
 use Rattle.names.specs.Bytes.{Bytes, bytes, slash}
 use Rattle.names.specs.Check.{Check, unless, ◌or_else◌, Checked, checked}
 use Rattle.names.specs.Name.{fits}
@@ -17,15 +17,15 @@ expand s = bytes "refs/namespaces/" ++ expand_rest s
 
 -- what goes before every name: nothing, where there is no namespace
 abbrev pub expansion : Option Bytes → Bytes
-expansion none = []
-expansion (some s) = expand s
+expansion None = []
+expansion (Some s) = expand s
 
 -- ---- rows 3, 4 and 5 of the table: "name, then namespace"
 
 -- a name that is not given passes
 abbrev pub passes_if_given : (Bytes → Bool) → Option Bytes → Bool
-passes_if_given f none = true
-passes_if_given f (some s) = f s
+passes_if_given f None = true
+passes_if_given f (Some s) = f s
 
 -- 3 "over 250 bytes", 4 "malformed", 5 "expansion over 250": for a partial name and a namespace, each given or not
 unfoldable pub names_check : Option Bytes → Option Bytes → Check
@@ -36,4 +36,4 @@ names_check name namespace =
 
 -- `expand`
 unfoldable pub expanded : Bytes → Checked Bytes
-expanded s = checked (names_check none (some s)) (expand s)
+expanded s = checked (names_check None (Some s)) (expand s)

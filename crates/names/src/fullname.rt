@@ -1,6 +1,6 @@
 // Full names and their categories (fullname.rs, name.rs).
 ghost use Rattle.std.specs.Prelude.{◌≡◌, ◌++◌, ℕ, take};
-ghost use Rattle.std.proofs.Math.Option.{some};
+ghost use Rattle.std.specs.Prelude.{Some};
 ghost use Rattle.names.specs.Bytes.{Bytes, bytes, strip};
 ghost use Rattle.names.specs.Check.{refuses};
 ghost use Rattle.names.specs.Category.{class, first_slash, classify_below, classify_linked, classify, private_category, is_private, short_name, behind, full_of, to_full_name};
@@ -148,7 +148,7 @@ pub fn category_and_short_name(s: &[u8]) -> Class
 
 // Is the category private to its worktree? The worktree's name plays no part.
 pub fn is_worktree_private(c: Category) -> bool
-    ensures { (w : ℕ → Bytes) → result ≡ private_category (some (category_with w c)) }
+    ensures { (w : ℕ → Bytes) → result ≡ private_category (Some (category_with w c)) }
 {
     match c {
         Category::Tag => false,

@@ -1,6 +1,6 @@
 // Names (name.rs): 250 bytes held in a struct, with a length.
 ghost use Rattle.std.specs.Prelude.{◌≡◌, [], ◌++◌, true, ◌+◌, leb, take};
-ghost use Rattle.std.proofs.Math.Option.{none, some};
+ghost use Rattle.std.specs.Prelude.{None, Some};
 ghost use Rattle.names.specs.Bytes.{bytes, same};
 ghost use Rattle.names.specs.Check.{checked};
 ghost use Rattle.names.specs.Name.{longest, pseudo_byte, is_pseudo, looks_full};
@@ -240,7 +240,7 @@ pub fn remote_head_candidate(out: &mut [u8; LONGEST], x: &[u8]) -> Filled
 
 // Whether s is a partial name: refused 3 over 250 bytes, then 4 if malformed.
 pub fn check_partial(s: &[u8]) -> Verdict
-    ensures { check_of result ≡ names_check (some s.now) none }
+    ensures { check_of result ≡ names_check (Some s.now) None }
 {
     if s.len() > LONGEST {
         return Verdict::Refused(Refusal::TooLong);
@@ -253,7 +253,7 @@ pub fn check_partial(s: &[u8]) -> Verdict
 
 // The partial name s, checked.
 pub fn partial_name(s: &[u8]) -> CheckedPartial
-    ensures { checked_partial result ≡ checked (names_check (some s.now) none) s.now }
+    ensures { checked_partial result ≡ checked (names_check (Some s.now) None) s.now }
 {
     let verdict = check_partial(s);
     let n = cut_name(s);

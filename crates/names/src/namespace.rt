@@ -1,6 +1,6 @@
 // Namespaces (namespace.rs).
 ghost use Rattle.std.specs.Prelude.{◌≡◌, true, ◌≤◌, length};
-ghost use Rattle.std.proofs.Math.Option.{none, some};
+ghost use Rattle.std.specs.Prelude.{None, Some};
 ghost use Rattle.names.specs.Check.{refuses};
 ghost use Rattle.names.specs.Name.{longest, fits};
 ghost use Rattle.names.specs.Namespace.{expand, names_check, expanded};
@@ -98,7 +98,7 @@ fn expansion_fits(s: &[u8]) -> bool
 
 // Whether s is a namespace: refused 3 over 250 bytes, then 4 if malformed, then 5 if its expansion is over 250 bytes.
 pub fn check_namespace(s: &[u8]) -> Verdict
-    ensures { check_of result ≡ names_check none (some s.now) }
+    ensures { check_of result ≡ names_check None (Some s.now) }
 {
     if s.len() > LONGEST {
         return Verdict::Refused(Refusal::TooLong);

@@ -1,7 +1,7 @@
 -- The calls: the checks, and then search or following.
 use mathlib.Core.Path.{◌≡◌, refl, sym, ◌∙◌}
 use mathlib.Core.Bool.{true, false}
-use mathlib.Core.Option.{Option, none, some}
+use Rattle.std.specs.Prelude.{Option, None, Some}
 use Rattle.names.specs.Bytes.{Bytes}
 use Rattle.names.specs.Check.{Check}
 use Rattle.names.specs.Namespace.{expansion}
@@ -19,12 +19,12 @@ use Rattle.refs.specs.declared.check.Gate.TheVariants as gate
 use Rattle.refs.proofs.Checks.{gate_stops, Passes, gate_passes}
 
 answer_after : (c : Check) (f : Option Flaw) (s : Searched) → answer_only (after_checks c f s) ≡ after_checks c f s.answer
-answer_after none none s = refl
-answer_after none (some f) s = refl
-answer_after (some k) f s = refl
+answer_after None None s = refl
+answer_after None (Some f) s = refl
+answer_after (Some k) f s = refl
 
 -- a gate that passed gives the answer
-pub gate_open : {A : Type 0} (g : Gate) → passed g ≡ true → (a : A) → gated g a ≡ after_checks none none a
+pub gate_open : {A : Type 0} (g : Gate) → passed g ≡ true → (a : A) → gated g a ≡ after_checks None None a
 gate_open gate.Passed h a = refl
 gate_open gate.NotWhole h a = not_both h refl
 gate_open gate.TooMany h a = not_both h refl

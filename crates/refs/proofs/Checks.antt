@@ -3,7 +3,7 @@ use mathlib.Core.Path.{◌≡◌, refl}
 use Prim.Native.Nat.{ℕ}
 use native.Mathlib.Omega.{arith}
 use mathlib.Core.Bool.{Bool, true, false, true≢false, false≢true}
-use mathlib.Core.Option.{Option, none, some}
+use Rattle.std.specs.Prelude.{Option, None, Some}
 use Rattle.names.specs.Bytes.{Bytes}
 use Rattle.names.specs.Check.{Check, gives, refuses, checked}
 use Rattle.names.specs.Namespace.{passes_if_given}
@@ -30,17 +30,17 @@ module _ (f : Bytes → Bool) (has : Bool) (s : Bytes) where
 -- ---- the order of the checks
 
 -- what a check that passed leaves
-pub checked_gives : {A : Type 0} (c : Check) (a b : A) → gives b ≡ checked c a → c ≡ none
-checked_gives none a b h = refl
-checked_gives (some k) a b h = absurd (let z : ◌≡◌ {A = ℕ} 0 1 = cc in omega arith)
+pub checked_gives : {A : Type 0} (c : Check) (a b : A) → gives b ≡ checked c a → c ≡ None
+checked_gives None a b h = refl
+checked_gives (Some k) a b h = absurd (let z : ◌≡◌ {A = ℕ} 0 1 = cc in omega arith)
 
 pub checked_is : {A : Type 0} (c : Check) (a b : A) → gives b ≡ checked c a → b ≡ a
-checked_is none a b h = cc
-checked_is (some k) a b h = absurd (let z : ◌≡◌ {A = ℕ} 0 1 = cc in omega arith)
+checked_is None a b h = cc
+checked_is (Some k) a b h = absurd (let z : ◌≡◌ {A = ℕ} 0 1 = cc in omega arith)
 
-pub checked_refuses : {A : Type 0} (c : Check) (a : A) (k : ℕ) → refuses k ≡ checked c a → c ≡ some k
-checked_refuses none a k h = absurd (let z : ◌≡◌ {A = ℕ} 0 1 = cc in omega arith)
-checked_refuses (some j) a k h = cc
+pub checked_refuses : {A : Type 0} (c : Check) (a : A) (k : ℕ) → refuses k ≡ checked c a → c ≡ Some k
+checked_refuses None a k h = absurd (let z : ◌≡◌ {A = ℕ} 0 1 = cc in omega arith)
+checked_refuses (Some j) a k h = cc
 
 -- ---- a call that was checked
 
@@ -71,23 +71,23 @@ module _ {A B : Type 0} (c : Check) (f : Option Flaw) (e : B) where
       same_unfit (gate.Unfit why r i) l n h = cc
 
       go : (d : Check) (l : Option Flaw) → gated g x ≡ after_checks d l e → gated g a ≡ after_checks d l b
-      go (some k) l h = same_away g k n h
-      go none (some l) h = same_unfit g l n h
-      go none none h = clash g n h
+      go (Some k) l h = same_away g k n h
+      go None (Some l) h = same_unfit g l n h
+      go None None h = clash g n h
 
 -- a call that passed: its checks found nothing
 pub record Passes {B : Type 0} (c : Check) (f : Option Flaw) (x e : B) : Type 0 where
-  pub no_check : c ≡ none
-  pub no_flaw : f ≡ none
+  pub no_check : c ≡ None
+  pub no_flaw : f ≡ None
   pub same_value : x ≡ e
 
 pub gate_passes : {B : Type 0} (c : Check) (f : Option Flaw) (e : B) (g : Gate) (x : B) → gated g x ≡ after_checks c f e → passed g ≡ true → Passes c f x e
 gate_passes c f e gate.Passed x h n = go c f h
   where
     go : (d : Check) (l : Option Flaw) → answers x ≡ after_checks d l e → Passes d l x e
-    go none none h = record { no_check = refl; no_flaw = refl; same_value = cc }
-    go none (some l) h = absurd (let z : ◌≡◌ {A = ℕ} 0 1 = cc in omega arith)
-    go (some k) l h = absurd (let z : ◌≡◌ {A = ℕ} 0 1 = cc in omega arith)
+    go None None h = record { no_check = refl; no_flaw = refl; same_value = cc }
+    go None (Some l) h = absurd (let z : ◌≡◌ {A = ℕ} 0 1 = cc in omega arith)
+    go (Some k) l h = absurd (let z : ◌≡◌ {A = ℕ} 0 1 = cc in omega arith)
 gate_passes c f e gate.NotWhole x h n = absurd (false≢true n)
 gate_passes c f e gate.TooMany x h n = absurd (false≢true n)
 gate_passes c f e (gate.Refused why) x h n = absurd (false≢true n)
@@ -95,7 +95,7 @@ gate_passes c f e (gate.Unfit why r i) x h n = absurd (false≢true n)
 
 -- ---- regions without a flaw
 
-pub fit_regions : (s : Snapshot) → store_flaw (store id_width s) ≡ none → FitRegions s
+pub fit_regions : (s : Snapshot) → store_flaw (store id_width s) ≡ None → FitRegions s
 fit_regions s h =
     let f = rw (store_is id_width s) at (store_flawless (store id_width s) h) in
     record { worktree = f.0; common = λ c e. rw e at f.1; packed = f.2 }

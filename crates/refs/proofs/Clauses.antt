@@ -4,7 +4,7 @@ use mathlib.Core.Path.{◌≡◌, refl}
 use Prim.Native.Nat.{ℕ, suc}
 use mathlib.Core.List.{List, [], ◌∷◌}
 use mathlib.Core.Bool.{false, ◌||◌}
-use mathlib.Core.Option.{Option, none, some}
+use Rattle.std.specs.Prelude.{Option, None, Some}
 use Rattle.names.specs.Bytes.{Bytes, same}
 use Rattle.names.specs.Name.{fits}
 use Rattle.names.specs.Check.{◌or_else◌, checked}
@@ -23,11 +23,11 @@ use Rattle.refs.specs.Run.{State, start, open_listing, unless_refused, unless_en
 -- ---- one region
 
 module _ (n : Bytes) where
-  pub block_none : block_of n [] ≡ none
+  pub block_none : block_of n [] ≡ None
   unfolding block_of
   block_none = refl
 
-  pub block_more : (e : Entry) (l : List Entry) → block_of n (e ∷ l) ≡ (if bears n (name_of e) then some e else block_of n l)
+  pub block_more : (e : Entry) (l : List Entry) → block_of n (e ∷ l) ≡ (if bears n (name_of e) then Some e else block_of n l)
   unfolding block_of
   block_more e l = refl
 
@@ -118,10 +118,10 @@ unfolding step
 step_is width s st = refl
 
 module _ (s : Snapshot) (namespace : Option Bytes) where
-  pub open_is : open_listing s namespace ≡ checked (size_check s or_else names_check none namespace) (start (expansion namespace))
+  pub open_is : open_listing s namespace ≡ checked (size_check s or_else names_check None namespace) (start (expansion namespace))
   unfolding open_listing
   open_is = refl
 
-  pub listing_is : (width n : ℕ) → listing width s namespace n ≡ run_opened width s n (checked (size_check s or_else names_check none namespace) (start (expansion namespace)))
+  pub listing_is : (width n : ℕ) → listing width s namespace n ≡ run_opened width s n (checked (size_check s or_else names_check None namespace) (start (expansion namespace)))
   unfolding listing open_listing
   listing_is width n = refl

@@ -3,7 +3,7 @@ use mathlib.Core.Path.{◌≡◌, refl, sym, ap, ◌∙◌}
 use Prim.Native.Nat.{Ordering}
 use Prim.Native.Nat.{ℕ, ◌+◌, ◌≤◌, ◌<◌}
 use native.Mathlib.Omega.{arith}
-use mathlib.Core.Option.{none, some}
+use Rattle.std.specs.Prelude.{None, Some}
 use borrow.Author.Tests.{lt-ltb}
 use lib.ListN.{length, drop, drop_of_length-le}
 use Rattle.names.specs.Bytes.{Bytes, order}
@@ -23,10 +23,10 @@ pub record Bracket (p s : Bytes) (lo hi : ℕ) : Type 0 where
   pub lo_le : lo ≤ hi
   pub hi_le : hi ≤ block_count s
   pub low : (r : Region) → Flawless r s → block_of p (entries id_width r s) ≡ block_of p (drop lo (entries id_width r s))
-  pub high : (r : Region) → Flawless r s → block_of p (drop hi (entries id_width r s)) ≡ none
+  pub high : (r : Region) → Flawless r s → block_of p (drop hi (entries id_width r s)) ≡ None
 
 module _ (p s : Bytes) where
-  past_end : (r : Region) → block_of p (drop (block_count s) (entries id_width r s)) ≡ none
+  past_end : (r : Region) → block_of p (drop (block_count s) (entries id_width r s)) ≡ None
   unfolding block_of
   past_end r =
       let l : length (entries id_width r s) ≤ block_count s = omega (arith, length_entries id_width r s) in
@@ -39,7 +39,7 @@ module _ (p s : Bytes) where
     within : mid < block_count s
     within = omega (arith, b.hi_le)
 
-    there : (r : Region) → Flawless r s → name_of (entry id_width r (block_at s mid)) ≡ some (name_in s mid)
+    there : (r : Region) → Flawless r s → name_of (entry id_width r (block_at s mid)) ≡ Some (name_in s mid)
     there r f = block_named r s f mid within ∙ rw (lt-ltb mid (block_count s) within)
 
     pub bracket_up : order (name_in s mid) p ≡ Ordering.lt → Bracket p s (mid + 1) hi
@@ -60,15 +60,15 @@ module _ (p s : Bytes) where
           high = over;
         }
       where
-        over : (r : Region) → Flawless r s → block_of p (drop mid (entries id_width r s)) ≡ none
+        over : (r : Region) → Flawless r s → block_of p (drop mid (entries id_width r s)) ≡ None
         over r f =
-            let t : Sorted none (drop mid (entries id_width r s)) = sorted_drop mid (region_sorted r s f) in
+            let t : Sorted None (drop mid (entries id_width r s)) = sorted_drop mid (region_sorted r s f) in
             rw (entries_at id_width r s mid within) (above p (name_in s mid) (rw (entries_at id_width r s mid within) at t) (there r f) e)
 
     pub bracket_found : order (name_in s mid) p ≡ Ordering.eq → IndexOf p s (At mid)
     bracket_found e =
         record {
-          is = λ r f. rw (entries_at id_width r s mid within) (here p (region_sorted r s f) mid _ _ (entries_at id_width r s mid within) (there r f ∙ ap some (order_eq (name_in s mid) p e)));
+          is = λ r f. rw (entries_at id_width r s mid within) (here p (region_sorted r s f) mid _ _ (entries_at id_width r s mid within) (there r f ∙ ap Some (order_eq (name_in s mid) p e)));
           inside = within;
         }
 

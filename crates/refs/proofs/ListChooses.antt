@@ -1,7 +1,7 @@
 -- The choice between what waits in the three regions, in the code's order.
 use mathlib.Core.Path.{◌≡◌, refl, sym, ◌∙◌}
 use mathlib.Core.Bool.{Bool, true, false, not, true≢false, false≢true}
-use mathlib.Core.Option.{Option, none, some}
+use Rattle.std.specs.Prelude.{Option, None, Some}
 use Prim.Native.Nat.{ℕ, Ordering}
 use borrow.Author.Tests.{not-true, not-false}
 use lib.Dec.{compare_is_eq}
@@ -81,14 +81,14 @@ module _ (e : Bytes) (r : Region) (s : Bytes) (w : waiting.Waiting) (b : Bool) w
           go left.Error h = absurd (false≢true h)
           go left.Name h = refl
 
-      pub least_alone : (q : Option Offer) → q ≡ none → some own ≡ least (waiting_of e r s w) q
+      pub least_alone : (q : Option Offer) → q ≡ None → Some own ≡ least (waiting_of e r s w) q
       least_alone q h = rw (h, name_is)
 
-      module _ (q : Option Offer) (o : Offer) (h : q ≡ some o) (t : Bool) (above : t ≡ not_above (order (name_in s w.at) o.name)) where
-        pub least_first : t ≡ true → some own ≡ least (waiting_of e r s w) q
+      module _ (q : Option Offer) (o : Offer) (h : q ≡ Some o) (t : Bool) (above : t ≡ not_above (order (name_in s w.at) o.name)) where
+        pub least_first : t ≡ true → Some own ≡ least (waiting_of e r s w) q
         least_first y = rw (h, name_is, smaller_first (order (name_in s w.at) o.name) own o (sym above ∙ y))
 
-        pub least_second : t ≡ false → some o ≡ least (waiting_of e r s w) q
+        pub least_second : t ≡ false → Some o ≡ least (waiting_of e r s w) q
         least_second y = rw (h, name_is, smaller_second (order (name_in s w.at) o.name) own o (sym above ∙ y))
 
       module _ (m : Bytes) (i : ℕ) (t : Bool) (h : t ≡ same m (name_in s w.at)) where
@@ -131,17 +131,17 @@ module _ (x y z : Waiting) (at : Positions) (m : Move) where
       pub choose_worktree : (a : Answer) (i : ℕ) → x ≡ error a i → m ≡ record { answer = a; next = record { worktree = i; common = at.common; packed = at.packed } } → m ≡ choose x y z at
       choose_worktree a i h g = g ∙ rw (packed, common, h)
 
-      pub choose_name : NoError x → m ≡ by_name (least x (least y (least z none))) x y z at → m ≡ choose x y z at
+      pub choose_name : NoError x → m ≡ by_name (least x (least y (least z None))) x y z at → m ≡ choose x y z at
       choose_name worktree g = g ∙ rw (packed, common, worktree)
 
 -- f, s and t are the offers of packed, then of common too, then of all
-module _ (x y z : Waiting) (at : Positions) (f s t : Option Offer) (first : f ≡ least z none) (second : s ≡ least y f) (third : t ≡ least x s) where
-  all_three : t ≡ least x (least y (least z none))
+module _ (x y z : Waiting) (at : Positions) (f s t : Option Offer) (first : f ≡ least z None) (second : s ≡ least y f) (third : t ≡ least x s) where
+  all_three : t ≡ least x (least y (least z None))
   all_three = third ∙ rw (second, first)
 
-  pub name_none : t ≡ none → record { answer = offered t; next = at } ≡ by_name (least x (least y (least z none))) x y z at
+  pub name_none : t ≡ None → record { answer = offered t; next = at } ≡ by_name (least x (least y (least z None))) x y z at
   name_none e = rw (← all_three, e)
 
-  pub name_given : (o : Offer) (i j k : ℕ) → t ≡ some o → i ≡ past o.name x at.worktree → j ≡ past o.name y at.common → k ≡ past o.name z at.packed
-      → record { answer = o.answer; next = record { worktree = i; common = j; packed = k } } ≡ by_name (least x (least y (least z none))) x y z at
+  pub name_given : (o : Offer) (i j k : ℕ) → t ≡ Some o → i ≡ past o.name x at.worktree → j ≡ past o.name y at.common → k ≡ past o.name z at.packed
+      → record { answer = o.answer; next = record { worktree = i; common = j; packed = k } } ≡ by_name (least x (least y (least z None))) x y z at
   name_given o i j k e u v w = rw (← all_three, e, u, v, w)

@@ -2,7 +2,7 @@
 use mathlib.Core.Path.{◌≡◌, refl, ◌∙◌}
 use mathlib.Core.Bool.{Bool, true, false, not, true≢false, false≢true}
 use mathlib.Core.List.{[]}
-use mathlib.Core.Option.{Option, none, some}
+use Rattle.std.specs.Prelude.{Option, None, Some}
 use Prim.Native.Nat.{ℕ, ◌≤◌}
 use lib.ListN.{length}
 use native.Mathlib.Omega.{arith}
@@ -19,24 +19,24 @@ use Rattle.refs.specs.declared.overlay_iter.Opening.{Opening}
 use Rattle.refs.specs.declared.overlay_iter.Opening.TheVariants as opening
 use Rattle.refs.specs.declared.overlay_iter.Opened.{Opened}
 
-pub no_namespace : (has : Bool) (s : Bytes) → not has ≡ true → gives (start []) ≡ checked (names_check none (if_there has s)) (start (expansion (if_there has s)))
+pub no_namespace : (has : Bool) (s : Bytes) → not has ≡ true → gives (start []) ≡ checked (names_check None (if_there has s)) (start (expansion (if_there has s)))
 no_namespace true s h = absurd (false≢true h)
 no_namespace false s h = rw names_none
 
 gives_start : (k : Check) (n e : Bytes) → gives n ≡ checked k e → gives (start n) ≡ checked k (start e)
-gives_start none n e h = let q : n ≡ e = cc in rw q
-gives_start (some k) n e h = let z : ◌≡◌ {A = ℕ} 0 1 = cc in absurd (omega arith)
+gives_start None n e h = let q : n ≡ e = cc in rw q
+gives_start (Some k) n e h = let z : ◌≡◌ {A = ℕ} 0 1 = cc in absurd (omega arith)
 
 refuses_start : (k : Check) (j : ℕ) (e : Bytes) → refuses j ≡ checked k e → refuses j ≡ checked k (start e)
-refuses_start none j e h = let z : ◌≡◌ {A = ℕ} 0 1 = cc in absurd (omega arith)
-refuses_start (some k) j e h = let q : j ≡ k = cc in rw q
+refuses_start None j e h = let z : ◌≡◌ {A = ℕ} 0 1 = cc in absurd (omega arith)
+refuses_start (Some k) j e h = let q : j ≡ k = cc in rw q
 
-pub namespace_right : (has : Bool) (s n : Bytes) → not has ≡ false → gives n ≡ expanded s → gives (start n) ≡ checked (names_check none (if_there has s)) (start (expansion (if_there has s)))
-namespace_right true s n t h = gives_start (names_check none (some s)) n (expand s) (h ∙ expanded_is s)
+pub namespace_right : (has : Bool) (s n : Bytes) → not has ≡ false → gives n ≡ expanded s → gives (start n) ≡ checked (names_check None (if_there has s)) (start (expansion (if_there has s)))
+namespace_right true s n t h = gives_start (names_check None (Some s)) n (expand s) (h ∙ expanded_is s)
 namespace_right false s n t h = absurd (true≢false t)
 
-pub namespace_refused : (has : Bool) (s : Bytes) (j : ℕ) → not has ≡ false → refuses j ≡ expanded s → refuses j ≡ checked (names_check none (if_there has s)) (start (expansion (if_there has s)))
-namespace_refused true s j t h = refuses_start (names_check none (some s)) j (expand s) (h ∙ expanded_is s)
+pub namespace_refused : (has : Bool) (s : Bytes) (j : ℕ) → not has ≡ false → refuses j ≡ expanded s → refuses j ≡ checked (names_check None (if_there has s)) (start (expansion (if_there has s)))
+namespace_refused true s j t h = refuses_start (names_check None (Some s)) j (expand s) (h ∙ expanded_is s)
 namespace_refused false s j t h = absurd (true≢false t)
 
 -- ---- the answers of a listing
@@ -72,10 +72,10 @@ pub opened_start : (s : Snapshot) (namespace : Option Bytes) (st : State) → op
 unfolding open_listing
 opened_start s namespace st e = sized (size_check s) e
   where
-    named : (k : Check) → names_check none namespace ≡ k → checked k (start (expansion namespace)) ≡ gives st → (st ≡ start (expansion namespace)) × (length (expansion namespace) ≤ longest)
-    named none n h = (cc, expansion_fits namespace n)
-    named (some k) n h = let z : ◌≡◌ {A = ℕ} 0 1 = cc in absurd (omega arith)
+    named : (k : Check) → names_check None namespace ≡ k → checked k (start (expansion namespace)) ≡ gives st → (st ≡ start (expansion namespace)) × (length (expansion namespace) ≤ longest)
+    named None n h = (cc, expansion_fits namespace n)
+    named (Some k) n h = let z : ◌≡◌ {A = ℕ} 0 1 = cc in absurd (omega arith)
 
-    sized : (c : Check) → checked (c or_else names_check none namespace) (start (expansion namespace)) ≡ gives st → (st ≡ start (expansion namespace)) × (length (expansion namespace) ≤ longest)
-    sized none h = named (names_check none namespace) refl h
-    sized (some k) h = let z : ◌≡◌ {A = ℕ} 0 1 = cc in absurd (omega arith)
+    sized : (c : Check) → checked (c or_else names_check None namespace) (start (expansion namespace)) ≡ gives st → (st ≡ start (expansion namespace)) × (length (expansion namespace) ≤ longest)
+    sized None h = named (names_check None namespace) refl h
+    sized (Some k) h = let z : ◌≡◌ {A = ℕ} 0 1 = cc in absurd (omega arith)

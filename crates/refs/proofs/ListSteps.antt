@@ -2,7 +2,7 @@
 use mathlib.Core.Path.{◌≡◌, refl, ◌∙◌}
 use mathlib.Core.Bool.{Bool, true, false}
 use mathlib.Core.List.{[]}
-use mathlib.Core.Option.{none}
+use Rattle.std.specs.Prelude.{None}
 use Rattle.names.specs.Bytes.{Bytes}
 use Rattle.blocks.specs.Block.{Region}
 use Rattle.blocks.specs.Snapshot.{store, or_empty, size_check}
@@ -28,7 +28,7 @@ module _ (e w c p : Bytes) (o : Place) (s : Said) (q : OfferSaid w c p o s) wher
   offer_answer = rw (said_own e s (place_name w c p o) (place_content w c p o)) (strip_with e s.outcome _ ∙ q e)
 
 -- no block, no entry
-pub no_entry : entry_in id_width Region.worktree [] 0 ≡ none
+pub no_entry : entry_in id_width Region.worktree [] 0 ≡ None
 no_entry = rw (no_entries id_width Region.worktree)
 
 -- what the block that is handed out says is what is handed out

@@ -1,7 +1,7 @@
 -- What waits in a region: at one block, and from one block to the next.
 use mathlib.Core.Path.{◌≡◌, refl, sym, ap, ◌∙◌}
 use mathlib.Core.Bool.{Bool, true, false, true≢false, false≢true}
-use mathlib.Core.Option.{none, some}
+use Rattle.std.specs.Prelude.{None, Some}
 use Prim.Native.Nat.{ℕ, suc, ◌+◌, ◌<◌, ◌≤◌}
 use native.Mathlib.Numerals.{add-one}
 use native.Mathlib.Omega.{arith}
@@ -23,13 +23,13 @@ use Rattle.refs.specs.declared.overlay_iter.Waiting as waiting
 use Rattle.refs.proofs.ListShows.{stripped_is}
 use Rattle.refs.proofs.Peeks.{peek_turn, peek_stop}
 
-none_some : {A C : Type 0} {a : A} → none ≡ some a → C
+none_some : {A C : Type 0} {a : A} → None ≡ Some a → C
 none_some h = let z : ◌≡◌ {A = ℕ} 0 1 = cc in absurd (omega arith)
 
 -- ---- one entry, given by its kind with name and content
 
 module _ (e : Bytes) (shows : Bytes → Bool) (n c : Bytes) (next : ℕ) (rest : Waiting) where
-  seen_fault : (kind : EntryKind) (x : Entry) → as_entry id_width kind n c ≡ some x → is_error kind ≡ true → error (strip_answer e (says id_width n x)) next ≡ first_seen (see id_width e shows x) next rest
+  seen_fault : (kind : EntryKind) (x : Entry) → as_entry id_width kind n c ≡ Some x → is_error kind ≡ true → error (strip_answer e (says id_width n x)) next ≡ first_seen (see id_width e shows x) next rest
   seen_fault End x h z = absurd (false≢true z)
   seen_fault Damaged x h z = let q : x ≡ damaged = cc in rw q
   seen_fault Failed x h z = let q : x ≡ failed = cc in rw q
@@ -38,23 +38,23 @@ module _ (e : Bytes) (shows : Bytes → Bool) (n c : Bytes) (next : ℕ) (rest :
   seen_fault Record x h z = absurd (false≢true z)
   seen_fault PeeledRecord x h z = absurd (false≢true z)
 
-  seen_shown : (kind : EntryKind) (x : Entry) → as_entry id_width kind n c ≡ some x → is_error kind ≡ false → shows n ≡ true → named n (strip_answer e (says id_width n x)) next ≡ first_seen (see id_width e shows x) next rest
+  seen_shown : (kind : EntryKind) (x : Entry) → as_entry id_width kind n c ≡ Some x → is_error kind ≡ false → shows n ≡ true → named n (strip_answer e (says id_width n x)) next ≡ first_seen (see id_width e shows x) next rest
   seen_shown End x h z t = none_some h
   seen_shown Damaged x h z t = absurd (true≢false z)
   seen_shown Failed x h z t = absurd (true≢false z)
   seen_shown Loose x h z t = let q : x ≡ loose n c = cc in rw (q, t)
   seen_shown Unread x h z t = let q : x ≡ unread n = cc in rw (q, t)
-  seen_shown Record x h z t = let q : x ≡ packed_record n (take id_width c) none = cc in rw (q, t)
-  seen_shown PeeledRecord x h z t = let q : x ≡ packed_record n (take id_width c) (some (drop id_width c)) = cc in rw (q, t)
+  seen_shown Record x h z t = let q : x ≡ packed_record n (take id_width c) None = cc in rw (q, t)
+  seen_shown PeeledRecord x h z t = let q : x ≡ packed_record n (take id_width c) (Some (drop id_width c)) = cc in rw (q, t)
 
-  seen_passed : (kind : EntryKind) (x : Entry) → as_entry id_width kind n c ≡ some x → is_error kind ≡ false → shows n ≡ false → rest ≡ first_seen (see id_width e shows x) next rest
+  seen_passed : (kind : EntryKind) (x : Entry) → as_entry id_width kind n c ≡ Some x → is_error kind ≡ false → shows n ≡ false → rest ≡ first_seen (see id_width e shows x) next rest
   seen_passed End x h z t = none_some h
   seen_passed Damaged x h z t = absurd (true≢false z)
   seen_passed Failed x h z t = absurd (true≢false z)
   seen_passed Loose x h z t = let q : x ≡ loose n c = cc in rw (q, t)
   seen_passed Unread x h z t = let q : x ≡ unread n = cc in rw (q, t)
-  seen_passed Record x h z t = let q : x ≡ packed_record n (take id_width c) none = cc in rw (q, t)
-  seen_passed PeeledRecord x h z t = let q : x ≡ packed_record n (take id_width c) (some (drop id_width c)) = cc in rw (q, t)
+  seen_passed Record x h z t = let q : x ≡ packed_record n (take id_width c) None = cc in rw (q, t)
+  seen_passed PeeledRecord x h z t = let q : x ≡ packed_record n (take id_width c) (Some (drop id_width c)) = cc in rw (q, t)
 
 -- ---- block k of a region
 

@@ -3,7 +3,8 @@ use mathlib.Core.Path.{◌≡◌, refl, sym, ap, ◌∙◌}
 use Prim.Native.Nat.{ℕ, ◌<◌}
 use mathlib.Core.List.{◌++◌}
 use mathlib.Core.Bool.{Bool, true, false}
-use mathlib.Core.Option.{Option, none, some, map}
+use Rattle.std.specs.Prelude.{Option, None, Some}
+use Rattle.std.specs.Option.{option_map}
 use Rattle.names.specs.Bytes.{Bytes}
 use Rattle.names.specs.Route.{Base, own, shared, at, route, packed_name}
 use Rattle.blocks.specs.Block.{Region}
@@ -33,16 +34,16 @@ use Rattle.refs.proofs.Says.{strip_with}
 
 module _ (r : Region) (s p : Bytes) (f : Flawless r s) (i : Index) (h : IndexOf p s i) where
   -- the block that was found
-  pub found_block : (k : ℕ) → i ≡ At k → (k < block_count s) × (block_of p (entries id_width r s) ≡ some (entry id_width r (block_at s k)))
+  pub found_block : (k : ℕ) → i ≡ At k → (k < block_count s) × (block_of p (entries id_width r s) ≡ Some (entry id_width r (block_at s k)))
   found_block k e = go i e h
     where
-      go : (j : Index) → j ≡ At k → IndexOf p s j → (k < block_count s) × (block_of p (entries id_width r s) ≡ some (entry id_width r (block_at s k)))
+      go : (j : Index) → j ≡ At k → IndexOf p s j → (k < block_count s) × (block_of p (entries id_width r s) ≡ Some (entry id_width r (block_at s k)))
       go j q g = at (rw q at g)
         where
-          at : IndexOf p s (At k) → (k < block_count s) × (block_of p (entries id_width r s) ≡ some (entry id_width r (block_at s k)))
+          at : IndexOf p s (At k) → (k < block_count s) × (block_of p (entries id_width r s) ≡ Some (entry id_width r (block_at s k)))
           at g = (g.inside, sym (g.is r f) ∙ entry_there id_width r s k g.inside)
 
-  pub found_none : i ≡ Nothing → block_of p (entries id_width r s) ≡ none
+  pub found_none : i ≡ Nothing → block_of p (entries id_width r s) ≡ None
   found_none e = sym (h.is r f) ∙ rw e
 
   -- its answer decides
@@ -72,12 +73,12 @@ module _ (e c : Bytes) (s : Store) (a : Answer) where
   pub unsought : (seek : Bool) (q : Option Bytes) → seek ≡ false → a ≡ nothing → a ≡ answer_of id_width e c (record_of e s seek q)
   unsought seek q h g = g ∙ rw h
 
-  pub never_sought : (seek : Bool) → a ≡ nothing → a ≡ answer_of id_width e c (record_of e s seek none)
+  pub never_sought : (seek : Bool) → a ≡ nothing → a ≡ answer_of id_width e c (record_of e s seek None)
   never_sought true g = g
   never_sought false g = g
 
   pub sought : (p : Bytes) → Flawless Region.packed p → (seek : Bool) (q : Bytes) (i : Index) → IndexOf (e ++ q) p i → seek ≡ true → s.packed ≡ entries id_width Region.packed p
-      → IndexAnswer e p i a → a ≡ answer_of id_width e c (record_of e s seek (some q))
+      → IndexAnswer e p i a → a ≡ answer_of id_width e c (record_of e s seek (Some q))
   sought p f seek q i h t l g = go i refl g ∙ rw (t, l)
     where
       go : (j : Index) → i ≡ j → IndexAnswer e p j a → a ≡ answer_of id_width e c (block_of (e ++ q) (entries id_width Region.packed p))
@@ -124,7 +125,7 @@ module _ (w c p : Bytes) (has : Bool) where
   region_is own = rw (store_is id_width (snapshot_of w (if_there has c) p))
   region_is shared = rw (store_is id_width (snapshot_of w (if_there has c) p)) (go has)
     where
-      go : (h : Bool) → common_or (map (entries id_width Region.common) (if_there h c)) (entries id_width Region.worktree w) ≡ entries id_width (region_read shared h) (part_of w c p (region_read shared h))
+      go : (h : Bool) → common_or (option_map (entries id_width Region.common) (if_there h c)) (entries id_width Region.worktree w) ≡ entries id_width (region_read shared h) (part_of w c p (region_read shared h))
       go true = refl
       go false = refl
 
@@ -136,7 +137,7 @@ module _ (w c p : Bytes) (has : Bool) where
     region_fit own = fit.worktree
     region_fit shared = go has fit.common
       where
-        go : (h : Bool) → ((x : Bytes) → if_there h c ≡ some x → Flawless Region.common x) → Flawless (region_read shared h) (part_of w c p (region_read shared h))
+        go : (h : Bool) → ((x : Bytes) → if_there h c ≡ Some x → Flawless Region.common x) → Flawless (region_read shared h) (part_of w c p (region_read shared h))
         go true f = f c refl
         go false f = fit.worktree
 

@@ -4,7 +4,7 @@ use Prim.Native.Nat.{ℕ, ◌≤◌, Ordering}
 use native.Mathlib.Omega.{arith}
 use mathlib.Core.List.{List}
 use mathlib.Core.Bool.{Bool, true, false}
-use mathlib.Core.Option.{Option, none, some}
+use Rattle.std.specs.Prelude.{Option, None, Some}
 use lib.ListN.{length, drop, length-drop}
 use Rattle.names.specs.Bytes.{Bytes, order}
 use Rattle.names.specs.Check.{Check}
@@ -59,8 +59,8 @@ error_at_most m (named n a i) to rest h k r = r
 
 by_name_at_most : (m : ℕ) (q : Option Offer) (w c p : Waiting) (at : Positions) → Before m w → Before m c → Before m p → AtMost m at
     → AtMost m (by_name q w c p at).next
-by_name_at_most m none w c p at hw hc hp h = h
-by_name_at_most m (some o) w c p at hw hc hp h =
+by_name_at_most m None w c p at hw hc hp h = h
+by_name_at_most m (Some o) w c p at hw hc hp h =
     record {
       worktree = past_before m o.name w at.worktree hw h.worktree;
       common = past_before m o.name c at.common hc h.common;
@@ -72,7 +72,7 @@ choose_at_most m w c p at hw hc hp h =
     error_at_most m p _ _ hp (λ i k. record { worktree = h.worktree; common = h.common; packed = k })
     (error_at_most m c _ _ hc (λ i k. record { worktree = h.worktree; common = k; packed = h.packed })
     (error_at_most m w _ _ hw (λ i k. record { worktree = k; common = h.common; packed = h.packed })
-    (by_name_at_most m (least w (least c (least p none))) w c p at hw hc hp h)))
+    (by_name_at_most m (least w (least c (least p None))) w c p at hw hc hp h)))
 
 move_at_most : (m : ℕ) (v : View) (s : Store) (at : Positions) → Few m s → AtMost m at → AtMost m (move v s at).next
 unfolding move
@@ -93,13 +93,13 @@ step_at_most width s st h = go (size_check s) refl
     m : Move
     m = move (view width (scope st.expansion)) (store width s) st.at
 
-    unless : (b : Bool) → size_check s ≡ none → AtMost most_blocks (unless_ended b st (moved st m)).next.at
+    unless : (b : Bool) → size_check s ≡ None → AtMost most_blocks (unless_ended b st (moved st m)).next.at
     unless true z = h
     unless false z = move_at_most most_blocks (view width (scope st.expansion)) (store width s) st.at (few width s z) h
 
     go : (c : Check) → size_check s ≡ c → AtMost most_blocks (unless_refused c st (unless_ended st.ended st (moved st m))).next.at
-    go (some k) e = h
-    go none e = unless st.ended e
+    go (Some k) e = h
+    go None e = unless st.ended e
 
 -- and the namespace's expansion stays
 pub step_expansion : (width : ℕ) (s : Snapshot) (st : State) → (step width s st).next.expansion ≡ st.expansion
@@ -107,6 +107,6 @@ unfolding step
 step_expansion width s st = go (size_check s) st.ended
   where
     go : (c : Check) (b : Bool) → (unless_refused c st (unless_ended b st (moved st (move (view width (scope st.expansion)) (store width s) st.at)))).next.expansion ≡ st.expansion
-    go (some k) b = refl
-    go none true = refl
-    go none false = refl
+    go (Some k) b = refl
+    go None true = refl
+    go None false = refl

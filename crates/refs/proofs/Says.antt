@@ -4,7 +4,7 @@ use mathlib.Core.Path.{◌≡◌, refl, sym, ◌∙◌}
 use Prim.Native.Nat.{ℕ, ◌≤◌}
 use native.Mathlib.Omega.{arith}
 use mathlib.Core.Bool.{Bool, true, false}
-use mathlib.Core.Option.{Option, none, some}
+use Rattle.std.specs.Prelude.{Option, None, Some}
 use lib.ListN.{length, take, drop}
 use lib.Seq.{take_all}
 use Rattle.names.specs.Bytes.{Bytes, strip}
@@ -33,19 +33,19 @@ module _ (r : Region) (s : Bytes) (k : ℕ) (kind : EntryKind) (name c n : Bytes
   pub said : (a : Answer) → a ≡ says_at n (as_entry id_width kind name c) → a ≡ says_at n (entry_in id_width r s k)
   said a e = e ∙ rw (b.name_is, b.content_is, b.entry_is)
 
-  said_ids : (p : Option Bytes) → as_entry id_width kind (name_in s k) (content_in s k) ≡ some (packed_record (name_in s k) (take id_width (content_in s k)) p) → Ids id_width c (take id_width (content_in s k)) p
+  said_ids : (p : Option Bytes) → as_entry id_width kind (name_in s k) (content_in s k) ≡ Some (packed_record (name_in s k) (take id_width (content_in s k)) p) → Ids id_width c (take id_width (content_in s k)) p
   said_ids p e = rw b.content_is (record_ids id_width r s k (name_in s k) (take id_width (content_in s k)) p (sym b.entry_is ∙ e))
 
-  pub said_record : kind ≡ Record → (a : Answer) → a ≡ found (record { name = name; target = object (id_in id_width c); peeled = none }) → a ≡ says_at n (entry_in id_width r s k)
+  pub said_record : kind ≡ Record → (a : Answer) → a ≡ found (record { name = name; target = object (id_in id_width c); peeled = None }) → a ≡ says_at n (entry_in id_width r s k)
   said_record e a h =
-      let i = said_ids none (rw e) in
-      said a (h ∙ rw (e, target_id id_width c (take id_width (content_in s k)) none i, b.content_is))
+      let i = said_ids None (rw e) in
+      said a (h ∙ rw (e, target_id id_width c (take id_width (content_in s k)) None i, b.content_is))
 
-  pub said_peeled : kind ≡ PeeledRecord → (a : Answer) → a ≡ found (record { name = name; target = object (id_in id_width c); peeled = some (id_in id_width (drop id_width c)) }) → a ≡ says_at n (entry_in id_width r s k)
+  pub said_peeled : kind ≡ PeeledRecord → (a : Answer) → a ≡ found (record { name = name; target = object (id_in id_width c); peeled = Some (id_in id_width (drop id_width c)) }) → a ≡ says_at n (entry_in id_width r s k)
   said_peeled e a h =
       let q = drop id_width (content_in s k) in
-      let i = said_ids (some q) (rw e) in
-      said a (h ∙ rw (e, target_id id_width c (take id_width (content_in s k)) (some q) i, peeled_id id_width c (take id_width (content_in s k)) q i, b.content_is))
+      let i = said_ids (Some q) (rw e) in
+      said a (h ∙ rw (e, target_id id_width c (take id_width (content_in s k)) (Some q) i, peeled_id id_width c (take id_width (content_in s k)) q i, b.content_is))
 
 -- ---- the reference that is said
 

@@ -1,6 +1,6 @@
 -- Following (raw_ext.rs `follow_to_object_packed`).
 use Rattle.std.specs.Prelude.{ℕ, zero, suc, List, [], ◌∷◌, Bool, false, ◌||◌, if◌then◌else◌}
-use Rattle.std.proofs.Math.Option.{Option}
+use Rattle.std.specs.Prelude.{Option}
 use Rattle.names.specs.Bytes.{Bytes, same}
 use Rattle.names.specs.Namespace.{expansion}
 use Rattle.blocks.specs.Content.{Target, object, symbolic}

@@ -1,7 +1,7 @@
 -- What the private functions of the listing promise. Nobody has to believe these: the promises of the public functions do
 -- not speak of them.
 use Rattle.std.specs.Prelude.{◌≡◌, Bool, true, false, if◌then◌else◌}
-use Rattle.std.proofs.Math.Option.{Option, none, some}
+use Rattle.std.specs.Prelude.{Option, None, Some}
 use Prim.Native.Nat.{ℕ, Ordering}
 use Rattle.names.specs.Bytes.{Bytes}
 use Rattle.blocks.specs.Block.{Region}
@@ -94,14 +94,14 @@ not_above Ordering.gt = false
 
 -- the block of the regions w, c, p that is offered
 abbrev pub offer_of : Bytes → Bytes → Bytes → Bytes → Place → Option Offer
-offer_of e w c p Nowhere = none
+offer_of e w c p Nowhere = None
 offer_of e w c p (In r k) =
-    some (record { name = name_in (part_of w c p (region_of r)) k; answer = answer_at e (region_of r) (part_of w c p (region_of r)) k })
+    Some (record { name = name_in (part_of w c p (region_of r)) k; answer = answer_at e (region_of r) (part_of w c p (region_of r)) k })
 
 -- the answer that is handed out: "ended" where no block is
 abbrev pub offered : Option Offer → Answer
-offered none = nothing
-offered (some o) = o.answer
+offered None = nothing
+offered (Some o) = o.answer
 
 -- what is handed out of the regions w, c, p, and the positions after it
 abbrev pub move_of : Bytes → Bytes → Bytes → Bytes → move.Move → Move
@@ -132,7 +132,7 @@ abbrev pub NameMove : Bytes → Bytes → Bytes → waiting.Waiting → waiting.
 NameMove w c p x y z at m =
     (e : Bytes)
     → move_of e w c p m
-    ≡ by_name (least (waiting_of e Region.worktree w x) (least (waiting_of e Region.common c y) (least (waiting_of e Region.packed p z) none))) (waiting_of e Region.worktree w x) (waiting_of e Region.common c y) (waiting_of e Region.packed p z) (positions_of at)
+    ≡ by_name (least (waiting_of e Region.worktree w x) (least (waiting_of e Region.common c y) (least (waiting_of e Region.packed p z) None))) (waiting_of e Region.worktree w x) (waiting_of e Region.common c y) (waiting_of e Region.packed p z) (positions_of at)
 
 -- the positions, where that of the region r is i
 abbrev pub moved_in : Region → ℕ → positions.Positions → Positions

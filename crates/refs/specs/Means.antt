@@ -1,6 +1,6 @@
 -- What the code's types mean: for each answer the paper's number and values.
 use Rattle.std.specs.Prelude.{◌≡◌, Bool, true, false, [], ℕ, drop, if◌then◌else◌}
-use Rattle.std.proofs.Math.Option.{Option, none, some}
+use Rattle.std.specs.Prelude.{Option, None, Some}
 use Rattle.names.specs.Bytes.{Bytes, strip}
 use Rattle.names.specs.Means.{content, number}
 use Rattle.names.specs.Check.{Check, Checked, checked}
@@ -64,7 +64,7 @@ reference_of r =
     record {
       name = content r.name;
       target = target_of r.kind r.id.digits (content r.target);
-      peeled = if r.has_peeled then some r.peeled.digits else none;
+      peeled = if r.has_peeled then Some r.peeled.digits else None;
     }
 
 -- nothing, the reference beside it, or 6, 7, 9 to 12
@@ -120,7 +120,7 @@ block_reference e kind peeled n c =
     record {
       name = strip e n;
       target = target_of kind (id_in id_width c) (strip e (target_part kind c));
-      peeled = if peeled then some (id_in id_width (drop id_width c)) else none;
+      peeled = if peeled then Some (id_in id_width (drop id_width c)) else None;
     }
 
 -- ---- calls
@@ -178,10 +178,10 @@ state_of l = record { at = positions_of l.at; ended = l.ended; expansion = conte
 
 -- 1 "size not a multiple of 512", 2 "over 4,096 blocks", 3 to 5 of the namespace
 abbrev pub opening_check : Opening → Check
-opening_check opening.Opened = none
-opening_check opening.NotWhole = some 1
-opening_check opening.TooMany = some 2
-opening_check (opening.Refused why) = some (number why)
+opening_check opening.Opened = None
+opening_check opening.NotWhole = Some 1
+opening_check opening.TooMany = Some 2
+opening_check (opening.Refused why) = Some (number why)
 
 -- a state, or the number
 abbrev pub opened : Opened → Checked State

@@ -1,7 +1,7 @@
 -- What the private functions of search and following promise. Nobody has to believe these: the promises of the public
 -- functions do not speak of them.
 use Rattle.std.specs.Prelude.{◌≡◌, List, [], ◌∷◌, Bool, true, false, ℕ, ◌<◌, eqb, take, drop, if◌then◌else◌}
-use Rattle.std.proofs.Math.Option.{Option, none, some}
+use Rattle.std.specs.Prelude.{Option, None, Some}
 use Rattle.names.specs.Bytes.{Bytes, bytes}
 use Rattle.names.specs.Means.{held, content, filled, if_fits, number}
 use Rattle.names.specs.declared.name.Filled.{Filled}
@@ -42,25 +42,25 @@ use Rattle.refs.specs.declared.check.NamesGate.TheVariants as names
 
 -- what the entry of a block answers under the name n, if there is a block
 abbrev pub says_at : Bytes → Option Entry → Answer
-says_at n none = nothing
-says_at n (some e) = says id_width n e
+says_at n None = nothing
+says_at n (Some e) = says id_width n e
 
 -- ---- a region fit for search
 
 -- none of its blocks has a flaw
 abbrev pub Flawless : Region → Bytes → Type 0
-Flawless r s = first_flaw r (entries id_width r s) ≡ none
+Flawless r s = first_flaw r (entries id_width r s) ≡ None
 
 -- no region of a snapshot has one
 pub record FitRegions (s : Snapshot) : Type 0 where
   pub worktree : Flawless Region.worktree s.worktree
-  pub common : (c : Bytes) → s.common ≡ some c → Flawless Region.common c
+  pub common : (c : Bytes) → s.common ≡ Some c → Flawless Region.common c
   pub packed : Flawless Region.packed s.packed
 
 -- the entry of an index, if it is one
 abbrev pub indexed : Index → List Entry → Option Entry
 indexed (At k) l = first (drop k l)
-indexed Nothing l = none
+indexed Nothing l = None
 
 -- the number is that of one of n blocks
 abbrev pub InRange : Index → ℕ → Type 0
@@ -86,7 +86,7 @@ pub record BlockIs (r : Region) (s : Bytes) (k : ℕ) (kind : EntryKind) (name c
 
 -- the reference of a packed record with the content c
 abbrev pub packed_reference : Bool → Bytes → Bytes → Reference
-packed_reference peeled m c = record { name = m; target = object (id_in id_width c); peeled = if peeled then some (id_in id_width (drop id_width c)) else none }
+packed_reference peeled m c = record { name = m; target = object (id_in id_width c); peeled = if peeled then Some (id_in id_width (drop id_width c)) else None }
 
 -- the reference of a block with the name m and the content c: a packed record's under its own name, else under n
 abbrev pub said_reference : Said → Bytes → Bytes → Bytes → Reference
@@ -94,7 +94,7 @@ said_reference s n m c =
     record {
       name = if s.from_packed then m else n;
       target = target_of s.kind (id_in id_width c) (target_name_in c);
-      peeled = if s.has_peeled then some (id_in id_width (drop id_width c)) else none;
+      peeled = if s.has_peeled then Some (id_in id_width (drop id_width c)) else None;
     }
 
 -- its answer
@@ -223,8 +223,8 @@ HitReference e w c p h s r = reference_of r ≡ strip_reference e (said_referenc
 
 -- nothing, or 3 to 5
 abbrev pub names_gate : NamesGate → Check
-names_gate names.Passed = none
-names_gate (names.Refused why) = some (number why)
+names_gate names.Passed = None
+names_gate (names.Refused why) = Some (number why)
 
 -- the expansion, or 3 to 5
 abbrev pub names_checked : CheckedNames → Checked Bytes

@@ -1,6 +1,6 @@
 // What is checked before a search: rows 1 to 8.
 ghost use Rattle.std.specs.Prelude.{◌≡◌, ◌&&◌};
-ghost use Rattle.std.proofs.Math.Option.{none, some};
+ghost use Rattle.std.specs.Prelude.{None, Some};
 ghost use Rattle.names.specs.Check.{checked};
 ghost use Rattle.names.specs.Name.{fits};
 ghost use Rattle.names.specs.Namespace.{expansion, passes_if_given, names_check};
@@ -80,7 +80,7 @@ fn both_well_formed(x: &[u8], namespace: &[u8], has_namespace: bool) -> bool
 }
 
 fn refused_names(why: Refusal) -> CheckedNames
-    ensures { names_gate result.gate ≡ some (number why) }
+    ensures { names_gate result.gate ≡ Some (number why) }
 {
     let expansion = empty();
     let gate = NamesGate::Refused(why);
@@ -89,7 +89,7 @@ fn refused_names(why: Refusal) -> CheckedNames
 
 // Rows 3 to 5 of a name and a namespace: the earlier row first, whichever of the two it is.
 fn check_names(x: &[u8], namespace: &[u8], has_namespace: bool) -> CheckedNames
-    ensures { names_checked result ≡ checked (names_check (some x.now) (if_there has_namespace namespace.now)) (expansion (if_there has_namespace namespace.now)) }
+    ensures { names_checked result ≡ checked (names_check (Some x.now) (if_there has_namespace namespace.now)) (expansion (if_there has_namespace namespace.now)) }
 {
     if !both_fit(x, namespace, has_namespace) {
         return refused_names(Refusal::TooLong);
@@ -132,7 +132,7 @@ fn check_fit(
     packed: &[u8],
     expansion: Name,
 ) -> CheckedCall
-    ensures { gated result.gate (content result.expansion) ≡ after_checks none (store_flaw (store id_width (snapshot_of worktree.now (if_there has_common common.now) packed.now))) (content expansion) }
+    ensures { gated result.gate (content result.expansion) ≡ after_checks None (store_flaw (store id_width (snapshot_of worktree.now (if_there has_common common.now) packed.now))) (content expansion) }
 {
     let v = fitness(worktree, common, has_common, packed);
     match v {
@@ -162,7 +162,7 @@ fn check_named(
     namespace: &[u8],
     has_namespace: bool,
 ) -> CheckedCall
-    ensures { gated result.gate (content result.expansion) ≡ after_checks (names_check (some x.now) (if_there has_namespace namespace.now)) (store_flaw (store id_width (snapshot_of worktree.now (if_there has_common common.now) packed.now))) (expansion (if_there has_namespace namespace.now)) }
+    ensures { gated result.gate (content result.expansion) ≡ after_checks (names_check (Some x.now) (if_there has_namespace namespace.now)) (store_flaw (store id_width (snapshot_of worktree.now (if_there has_common common.now) packed.now))) (expansion (if_there has_namespace namespace.now)) }
 {
     let n = check_names(x, namespace, has_namespace);
     let gate = n.gate;

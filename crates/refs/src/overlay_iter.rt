@@ -1,6 +1,6 @@
 // The listing (overlay_iter.rs): loose and packed entries as one run, ordered by name.
 ghost use Rattle.std.specs.Prelude.{◌≡◌, not, suc, ◌<◌};
-ghost use Rattle.std.proofs.Math.Option.{none};
+ghost use Rattle.std.specs.Prelude.{None};
 ghost use Rattle.names.specs.Bytes.{starts_with};
 ghost use Rattle.names.specs.Check.{checked};
 ghost use Rattle.names.specs.Namespace.{expansion, names_check};
@@ -93,7 +93,7 @@ fn not_opened(opening: Opening) -> Opened
 
 // Where a namespace is given, it is checked.
 fn open_named(namespace: &[u8], has_namespace: bool) -> Opened
-    ensures { opened result ≡ checked (names_check none (if_there has_namespace namespace.now)) (start (expansion (if_there has_namespace namespace.now))) }
+    ensures { opened result ≡ checked (names_check None (if_there has_namespace namespace.now)) (start (expansion (if_there has_namespace namespace.now))) }
 {
     if !has_namespace {
         let name = empty();

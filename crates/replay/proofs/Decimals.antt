@@ -3,7 +3,7 @@ use Rattle.std.specs.Prelude.{if◌then◌else◌}
 use mathlib.Core.Path.{◌≡◌, refl, sym}
 use mathlib.Core.Bool.{Bool, true, false, ◌&&◌}
 use mathlib.Core.List.{[], ◌∷◌}
-use mathlib.Core.Option.{none, some}
+use Rattle.std.specs.Prelude.{None, Some}
 use Prim.Native.Nat.{ℕ, suc, ◌+◌, ◌*◌, ◌-◌, ◌≤◌, ◌<◌}
 use native.Mathlib.Omega.{arith}
 use borrow.Author.Tests.{le-leb, lt-leb, leb-true, leb-false}
@@ -36,18 +36,18 @@ module _ (b : ℕ) where
   decimal_above x = simp (le-leb 48 b (omega arith), lt-leb b 57 x)
 
 module _ (v b : ℕ) (s : Bytes) where
-  pub no_digit : is_decimal b ≡ false → number_behind v (b ∷ s) ≡ none
+  pub no_digit : is_decimal b ≡ false → number_behind v (b ∷ s) ≡ None
   unfolding number_behind
   no_digit h = rw (every_more is_decimal b s, h)
 
-  pub too_large : largest < v * 10 + (b - 48) → number_behind v (b ∷ s) ≡ none
+  pub too_large : largest < v * 10 + (b - 48) → number_behind v (b ∷ s) ≡ None
   unfolding number_behind digits_behind
   too_large h = rw (lt-leb (digits_behind (v * 10 + (b - 48)) s) largest l) (falls (every is_decimal (b ∷ s)))
     where
       l : largest < digits_behind (v * 10 + (b - 48)) s
       l = let g = grows s (v * 10 + (b - 48)) in omega arith
 
-      falls : (t : Bool) → (if t && false then some (digits_behind (v * 10 + (b - 48)) s) else none) ≡ none
+      falls : (t : Bool) → (if t && false then Some (digits_behind (v * 10 + (b - 48)) s) else None) ≡ None
       falls true = refl
       falls false = refl
 
@@ -56,16 +56,16 @@ module _ (v b : ℕ) (s : Bytes) where
   goes_on h = rw (every_more is_decimal b s, h)
 
 -- no digit behind v
-pub nothing_behind : (v : ℕ) → v ≤ largest → number_behind v [] ≡ some v
+pub nothing_behind : (v : ℕ) → v ≤ largest → number_behind v [] ≡ Some v
 unfolding number_behind digits_behind
 nothing_behind v h = rw (every_none is_decimal, le-leb v largest h)
 
 module _ (v b : ℕ) (s : Bytes) where
   -- what one digit says holds for all that follow
-  pub stops : number_behind v (b ∷ []) ≡ none → number_behind v (b ∷ s) ≡ none
+  pub stops : number_behind v (b ∷ []) ≡ None → number_behind v (b ∷ s) ≡ None
   stops h = go (is_decimal b) refl (leb (v * 10 + (b - 48)) largest) refl
     where
-      go : (d : Bool) → is_decimal b ≡ d → (l : Bool) → leb (v * 10 + (b - 48)) largest ≡ l → number_behind v (b ∷ s) ≡ none
+      go : (d : Bool) → is_decimal b ≡ d → (l : Bool) → leb (v * 10 + (b - 48)) largest ≡ l → number_behind v (b ∷ s) ≡ None
       go false e l f = no_digit v b s e
       go true e false f = too_large v b s (leb-false _ _ f)
       go true e true f =
@@ -73,7 +73,7 @@ module _ (v b : ℕ) (s : Bytes) where
           let o = goes_on v b [] e in
           cc
 
-  pub steps : (w : ℕ) → number_behind v (b ∷ []) ≡ some w → (number_behind v (b ∷ s) ≡ number_behind w s) × (w ≤ largest)
+  pub steps : (w : ℕ) → number_behind v (b ∷ []) ≡ Some w → (number_behind v (b ∷ s) ≡ number_behind w s) × (w ≤ largest)
   steps w h = go (is_decimal b) refl (leb (v * 10 + (b - 48)) largest) refl
     where
       go : (d : Bool) → is_decimal b ≡ d → (l : Bool) → leb (v * 10 + (b - 48)) largest ≡ l → (number_behind v (b ∷ s) ≡ number_behind w s) × (w ≤ largest)
@@ -88,12 +88,12 @@ module _ (v b : ℕ) (s : Bytes) where
 -- ---- in a field, at place i
 
 module _ (s : Bytes) (i v : ℕ) where
-  pub stops_at : (n : Number) → i < length s → read_in n ≡ number_behind v (get_or s i 0 ∷ []) → n.ok ≡ false → number_behind v (drop i s) ≡ none
+  pub stops_at : (n : Number) → i < length s → read_in n ≡ number_behind v (get_or s i 0 ∷ []) → n.ok ≡ false → number_behind v (drop i s) ≡ None
   stops_at n h e f = rw (drop-cons s i 0 h) (stops v (get_or s i 0) (drop (suc i) s) (sym (rw f at e)))
 
   pub steps_at : (n : Number) → i < length s → read_in n ≡ number_behind v (get_or s i 0 ∷ []) → n.ok ≡ true
       → (number_behind v (drop i s) ≡ number_behind n.value (drop (i + 1) s)) × (n.value ≤ largest)
   steps_at n h e f = rw (add-one i, drop-cons s i 0 h) (steps v (get_or s i 0) (drop (suc i) s) n.value (sym (rw f at e)))
 
-  pub ends_at : length s ≤ i → v ≤ largest → number_behind v (drop i s) ≡ some v
+  pub ends_at : length s ≤ i → v ≤ largest → number_behind v (drop i s) ≡ Some v
   ends_at h l = rw (drop_of_length-le s h) (nothing_behind v l)

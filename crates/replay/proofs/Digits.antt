@@ -1,7 +1,7 @@
 -- Hexadecimal digits, by ranges, and pairs of them, pair by pair.
 use mathlib.Core.Path.{◌≡◌, refl}
 use mathlib.Core.Bool.{true, false, ◌&&◌, not}
-use mathlib.Core.Option.{none, some}
+use Rattle.std.specs.Prelude.{None, Some}
 use mathlib.Core.List.{[], ◌∷◌, ◌++◌, append_assoc, append-nil}
 use Prim.Native.Nat.{ℕ, suc, ◌+◌, ◌*◌, ◌-◌, ◌/◌, ◌%◌, ◌≤◌, ◌<◌}
 use native.Mathlib.Numerals.{add-one}
@@ -94,14 +94,14 @@ not_too_long s h =
     leb-true (length s) (most * 2) (and_right a b (and_left (a && b) d (and_left (a && b && d) (every is_digit s) h)))
 
 -- the three ways to read it
-pub is_empty : (s : Bytes) → same s (bytes "-") ≡ true → some [] ≡ byte_string s
+pub is_empty : (s : Bytes) → same s (bytes "-") ≡ true → Some [] ≡ byte_string s
 unfolding byte_string
 is_empty s h = rw h
 
-pub is_none : (s : Bytes) → same s (bytes "-") ≡ false → is_pairs s ≡ false → none ≡ byte_string s
+pub is_none : (s : Bytes) → same s (bytes "-") ≡ false → is_pairs s ≡ false → None ≡ byte_string s
 unfolding byte_string
 is_none s h k = rw (h, k)
 
-pub is_some : (s d : Bytes) → same s (bytes "-") ≡ false → is_pairs s ≡ true → take (length s / 2) d ≡ pairs s → some (take (length s / 2) d) ≡ byte_string s
+pub is_some : (s d : Bytes) → same s (bytes "-") ≡ false → is_pairs s ≡ true → take (length s / 2) d ≡ pairs s → Some (take (length s / 2) d) ≡ byte_string s
 unfolding byte_string
 is_some s d h k e = rw (h, k, e)

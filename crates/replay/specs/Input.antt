@@ -1,6 +1,6 @@
 -- Byte strings and numbers, as a field of the vector format writes them.
 use Rattle.std.specs.Prelude.{ℕ, ◌+◌, ◌*◌, ◌-◌, ◌%◌, ◌^◌, ◌≡◌, [], ◌∷◌, Bool, false, ◌&&◌, ◌||◌, not, leb, eqb, length, take, if◌then◌else◌}
-use Rattle.std.proofs.Math.Option.{Option, none, some}
+use Rattle.std.specs.Prelude.{Option, None, Some}
 use Rattle.names.specs.Bytes.{Bytes, bytes, same, every}
 use Rattle.replay.specs.declared.input.Given.{Given}
 use Rattle.replay.specs.declared.input.Number.{Number}
@@ -31,11 +31,11 @@ is_pairs s = not (eqb (length s) 0) && leb (length s) (most * 2) && eqb (length 
 
 -- "`-` is the empty string"
 unfoldable pub byte_string : Bytes → Option Bytes
-byte_string s = if same s (bytes "-") then some [] else if is_pairs s then some (pairs s) else none
+byte_string s = if same s (bytes "-") then Some [] else if is_pairs s then Some (pairs s) else None
 
 -- what was read into an array
 abbrev pub given_in : Given → Bytes → Option Bytes
-given_in g to = if g.ok then some (take g.len to) else none
+given_in g to = if g.ok then Some (take g.len to) else None
 
 -- A field was read into an array: it gives its byte string, or the array stays as it was.
 pub record Reads (s old new : Bytes) (g : Given) : Type 0 where
@@ -58,12 +58,12 @@ digits_behind v (b ∷ s) = digits_behind (v * 10 + (b - 48)) s
 
 -- the same, where all are digits and the number is not too large
 unfoldable pub number_behind : ℕ → Bytes → Option ℕ
-number_behind v s = if every is_decimal s && leb (digits_behind v s) largest then some (digits_behind v s) else none
+number_behind v s = if every is_decimal s && leb (digits_behind v s) largest then Some (digits_behind v s) else None
 
 -- "one or more decimal digits without a sign, leading zeros allowed"
 unfoldable pub number_in : Bytes → Option ℕ
-number_in s = if eqb (length s) 0 then none else number_behind 0 s
+number_in s = if eqb (length s) 0 then None else number_behind 0 s
 
 -- the number that was read
 abbrev pub read_in : Number → Option ℕ
-read_in n = if n.ok then some n.value else none
+read_in n = if n.ok then Some n.value else None

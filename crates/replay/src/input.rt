@@ -1,6 +1,6 @@
 // The fields of a line, and what a field says.
 ghost use Rattle.std.specs.Prelude.{◌≡◌, ◌∷◌, [], ◌+◌, ◌*◌, ◌/◌, ◌≤◌, ◌<◌, length, take};
-ghost use Rattle.std.proofs.Math.Option.{none};
+ghost use Rattle.std.specs.Prelude.{None};
 ghost use Rattle.names.specs.Bytes.{every};
 ghost use Rattle.replay.specs.Input.{is_digit, digit_value, pairs, is_pairs, Reads, number_behind, number_in, read_in};
 
@@ -189,7 +189,7 @@ pub(crate) fn read_optional(s: &[u8], to: &mut [u8; MOST]) -> Given {
 }
 
 fn no_number() -> Number
-    ensures { read_in result ≡ none }
+    ensures { read_in result ≡ None }
 {
     Number {
         ok: false,

@@ -80,11 +80,11 @@ positive : (k : ℕ) → 0 < 10 ^ k
 positive zero = omega arith
 positive (suc k) = rw (pow-suc 10 k) (omega (arith, positive k))
 
-none : (k : ℕ) → IsDigitCount 10 1 0 k → low k 0 ≡ numeral 0
+None : (k : ℕ) → IsDigitCount 10 1 0 k → low k 0 ≡ numeral 0
 unfolding numeral
-none zero f = absurd (omega (arith, f.0))
-none (suc zero) f = refl
-none (suc (suc k)) f =
+None zero f = absurd (omega (arith, f.0))
+None (suc zero) f = refl
+None (suc (suc k)) f =
     let least : 10 ^ k * 10 ≤ 0 = simp unary_clauses at (f.2 (omega arith)) in
     absurd (omega (arith, positive k))
 
@@ -105,7 +105,7 @@ grows n ih (suc (suc k)) f = go (leb (10 ^ suc k) n) refl
 
 counts : (n k : ℕ) → IsDigitCount 10 1 n k → low k n ≡ numeral n
 unfolding numeral
-counts zero k f = none k f
+counts zero k f = None k f
 counts (suc n) k f = grows n (counts n) k f
 
 pub decimal_digits : (n k : ℕ) → IsDigitCount 10 1 n k → last_digits 10 k n ≡ decimal n

@@ -2,7 +2,7 @@
 use mathlib.Core.Path.{◌≡◌, refl, ap, sym, ◌∙◌}
 use Prim.Native.Nat.{ℕ, suc, ◌+◌, ◌-◌, ◌*◌, ◌/◌, ◌<◌, ◌≤◌}
 use mathlib.Core.Bool.{Bool}
-use mathlib.Core.Option.{none}
+use Rattle.std.specs.Prelude.{None}
 use mathlib.Core.List.{List, [], ◌++◌, append_assoc, append-nil}
 use native.Mathlib.Omega.{arith}
 use lib.ListN.{length, take, length-take, length-append}
@@ -130,7 +130,7 @@ none_listed = refl
 -- ---- sizes
 
 -- files of right sizes have at most 120 blocks
-pub few_blocks : (w c p : Bytes) (has : Bool) (e : Bytes) → e ≡ or_empty (if_there has c) → sizes_within most_listed (length w) (length e) (length p) ≡ none
+pub few_blocks : (w c p : Bytes) (has : Bool) (e : Bytes) → e ≡ or_empty (if_there has c) → sizes_within most_listed (length w) (length e) (length p) ≡ None
     → block_total (snapshot_of w (if_there has c) p) ≤ most_steps
 unfolding block_total
 few_blocks w c p has e q h =

@@ -2,7 +2,7 @@
 use mathlib.Core.Path.{◌≡◌}
 use Prim.Native.Nat.{ℕ}
 use mathlib.Core.Bool.{true}
-use mathlib.Core.Option.{none, some}
+use Rattle.std.specs.Prelude.{None, Some}
 use native.Mathlib.Omega.{arith}
 use lib.ListN.{length}
 use Rattle.names.specs.Bytes.{Bytes}
@@ -14,7 +14,7 @@ use Rattle.refs.specs.Run.{start, is_nothing, step, run}
 use Rattle.refs.proofs.Moves.{run_ends}
 use Rattle.text.specs.Reflist.{block_total, files_check, report, size_report}
 
-pub all_handed_out : (width : ℕ) (s : Snapshot) (e : Bytes) → size_check s ≡ none → is_nothing (step width s (run width s (block_total s) (start e)).last).answer ≡ true
+pub all_handed_out : (width : ℕ) (s : Snapshot) (e : Bytes) → size_check s ≡ None → is_nothing (step width s (run width s (block_total s) (start e)).last).answer ≡ true
 unfolding block_total
 all_handed_out width s e z =
     run_ends width s (block_total s) (start e) z
@@ -22,7 +22,7 @@ all_handed_out width s e z =
     (omega (arith, length_entries width Region.worktree s.worktree, length_entries width Region.common (or_empty s.common), length_entries width Region.packed s.packed)))
 
 -- of files whose sizes are refused the program writes what `report` gives, whatever they hold
-pub sizes_suffice : (width : ℕ) (s : Snapshot) (k : ℕ) → files_check (length s.worktree) (length (or_empty s.common)) (length s.packed) ≡ some k
+pub sizes_suffice : (width : ℕ) (s : Snapshot) (k : ℕ) → files_check (length s.worktree) (length (or_empty s.common)) (length s.packed) ≡ Some k
     → report width s ≡ size_report (files_check (length s.worktree) (length (or_empty s.common)) (length s.packed))
 unfolding report
 sizes_suffice width s k h = rw h

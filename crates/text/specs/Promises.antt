@@ -1,6 +1,6 @@
 -- What private functions promise.
 use Rattle.std.specs.Prelude.{◌≡◌, ℕ, suc, ◌+◌, ◌*◌, ◌≤◌, List, ◌++◌, length, take}
-use Rattle.std.proofs.Math.Option.{none}
+use Rattle.std.specs.Prelude.{None}
 use Rattle.output.specs.Pasted.{Put}
 use Rattle.names.specs.Bytes.{Bytes}
 use Rattle.names.specs.Name.{longest}
@@ -58,7 +58,7 @@ pub record PutLines (before : Bytes) (at steps : ℕ) (l : List Answer) (after :
 
 -- the answers of a listing without a namespace, to its end
 abbrev pub listed_answers : Snapshot → List Answer
-listed_answers s = answers_of (listing id_width s none (block_total s))
+listed_answers s = answers_of (listing id_width s None (block_total s))
 
 -- ---- `refshow`
 

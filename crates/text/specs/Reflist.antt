@@ -1,6 +1,6 @@
 -- The program `reflist` (document 01, the end of "Listing").
 use Rattle.std.specs.Prelude.{ℕ, ◌+◌, ◌/◌, List, [], ◌∷◌, ◌++◌, length}
-use Rattle.std.proofs.Math.Option.{none, some}
+use Rattle.std.specs.Prelude.{None, Some}
 use Rattle.names.specs.Bytes.{Bytes, bytes}
 use Rattle.names.specs.Category.{short_name}
 use Rattle.names.specs.Check.{Check}
@@ -72,8 +72,8 @@ listed_text l = answer_lines l ++ end_line (line_count l)
 
 -- "After a refusal 1 or 2 one error line follows it and nothing more; otherwise the last line is `end`"
 abbrev pub below_heading : Check → List Answer → Bytes
-below_heading (some k) l = error_line k
-below_heading none l = listed_text l
+below_heading (Some k) l = error_line k
+below_heading None l = listed_text l
 
 -- what `reflist` writes of the files' bytes: "A missing file is an absent region, or an empty worktree."
 unfoldable pub report : ℕ → Snapshot → Bytes
@@ -81,9 +81,9 @@ report width s =
     heading
     ++ below_heading
     (files_check (length s.worktree) (length (or_empty s.common)) (length s.packed))
-    (answers_of (listing width s none (block_total s)))
+    (answers_of (listing width s None (block_total s)))
 
 -- the same of files that are too large to be read, from their sizes; nothing where the sizes are right
 abbrev pub size_report : Check → Bytes
-size_report none = []
-size_report (some k) = heading ++ error_line k
+size_report None = []
+size_report (Some k) = heading ++ error_line k

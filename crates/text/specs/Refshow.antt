@@ -1,6 +1,6 @@
 -- The program `refshow`: which commit does this reference name?
 use Rattle.std.specs.Prelude.{ℕ, List, [], ◌∷◌, ◌++◌, get_or}
-use Rattle.std.proofs.Math.Option.{none, some}
+use Rattle.std.specs.Prelude.{None, Some}
 use Rattle.names.specs.Bytes.{Bytes, bytes}
 use Rattle.names.specs.Check.{Check}
 use Rattle.blocks.specs.Block.{Region}
@@ -57,5 +57,5 @@ show_text (unfit f) = refused_line f.number ++ (bytes "in " ++ region_word f.reg
 
 -- the same of files that are too large to be read, from their sizes; nothing where the sizes are right
 abbrev pub size_show : Check → Bytes
-size_show none = []
-size_show (some k) = refused_line k
+size_show None = []
+size_show (Some k) = refused_line k

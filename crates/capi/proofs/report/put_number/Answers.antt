@@ -1,5 +1,5 @@
 use mathlib.Core.Path.{refl}
-use mathlib.Core.Option.{none}
+use Rattle.std.specs.Prelude.{None}
 use Rattle.capi.specs.Report.{report}
 use Rattle.capi.proofs.Records.{reported}
 use Rattle.capi.proofs.report.put_number.Goals as goal
@@ -7,4 +7,4 @@ use Rattle.capi.proofs.report.put_number.Goals as goal
 pub returns : goal.returns
 returns c =
     let number = c.args.number in
-    reported (report number none) number refl c.put_place.ensures c.put_no_reference.ensures
+    reported (report number None) number refl c.put_place.ensures c.put_no_reference.ensures

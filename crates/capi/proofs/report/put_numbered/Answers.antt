@@ -1,5 +1,5 @@
 use mathlib.Core.Path.{refl}
-use mathlib.Core.Option.{some}
+use Rattle.std.specs.Prelude.{Some}
 use Rattle.capi.specs.Report.{report}
 use Rattle.capi.specs.Promises.{reference_with}
 use Rattle.capi.proofs.Records.{reported}
@@ -9,4 +9,4 @@ pub returns : goal.returns
 returns c =
     let args = c.args in
     let reference = reference_with args.name.now args.kind args.id.now args.target.now args.has_peeled args.peeled.now in
-    reported (report args.number (some reference)) args.number refl c.put_place.ensures c.put_reference.ensures
+    reported (report args.number (Some reference)) args.number refl c.put_place.ensures c.put_reference.ensures

@@ -1,5 +1,5 @@
 use mathlib.Core.Path.{sym, ◌∙◌}
-use mathlib.Core.Option.{none}
+use Rattle.std.specs.Prelude.{None}
 use Rattle.blocks.specs.Means.{id_width, if_there, snapshot_of}
 use Rattle.refs.proofs.ListOpens.{not_opened_answers, opened_answers}
 use Rattle.text.specs.Reflist.{block_total}
@@ -14,7 +14,7 @@ pub returns-then-not-is_opened : goal.returns-then-not-is_opened
 returns-then-not-is_opened c =
     let args = c.args in
     let s = snapshot_of args.worktree.now (if_there args.has_common args.common.now) args.packed.now in
-    rw (not_opened_answers id_width s none (block_total s) c.open-o.result c.open-o.ensures (sym c.is_opened.ensures ∙ c.if-not-is_opened.true), none_listed) c.put_numbered.ensures.put
+    rw (not_opened_answers id_width s None (block_total s) c.open-o.result c.open-o.ensures (sym c.is_opened.ensures ∙ c.if-not-is_opened.true), none_listed) c.put_numbered.ensures.put
 
 pub put_lines-lines-requires : goal.put_lines-lines-requires
 put_lines-lines-requires c =
@@ -39,7 +39,7 @@ returns c =
     let or_empty = c.or_empty-there in
     let all = total_is args.worktree.now args.common.now args.packed.now args.has_common or_empty.result.now or_empty.ensures in
     rw (
-      opened_answers id_width s none (block_total s) c.open-o.result c.open-o.ensures (sym c.is_opened.ensures ∙ c.if-not-is_opened.false),
+      opened_answers id_width s None (block_total s) c.open-o.result c.open-o.ensures (sym c.is_opened.ensures ∙ c.if-not-is_opened.false),
       ← all,
     )
     (then_end args.out.now args.at _ _ _ lines.result.end lines.result.count _ _ lines.ensures (omega (arith, start.requires, all)) c.put_numbered-2.ensures.put)
