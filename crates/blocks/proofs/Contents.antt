@@ -1,110 +1,67 @@
 -- What a loose content says, by how it begins.
 use Rattle.std.specs.Prelude.{if◌then◌else◌}
-use mathlib.Core.Path.{◌≡◌, refl, sym}
+use mathlib.Core.Path.{◌≡◌}
 use mathlib.Core.Bool.{Bool, true, false, not}
 use mathlib.Core.List.{[], ◌∷◌}
-use Rattle.std.specs.Prelude.{None, Some}
+use Rattle.std.specs.Prelude.{Option, None, Some}
+use Rattle.std.specs.Borrow.{Bor}
+use Rattle.std.specs.Option.{MatchOption}
+use Rattle.std.specs.List.{HoldsAt}
 use Prim.Native.Nat.{ℕ, suc, ◌≤◌, ◌<◌}
 use native.Mathlib.Omega.{arith}
 use borrow.Author.Tests.{leb-true}
 use lib.Dec.{eqb}
-use lib.ListN.{length, take, drop, get_or, drop_of_length-le, length-drop}
-use lib.Seq.{drop-cons}
-use Rattle.names.specs.Bytes.{Bytes, bytes, same, starts_with, every, after}
-use Rattle.names.specs.Name.{fits}
+use lib.ListN.{length, take, drop, drop_of_length-le, length-drop, length-take}
+use lib.Seq.{drop-cons, take-take}
+use Rattle.names.specs.Bytes.{Bytes, bytes, starts_with, every, after}
 use Rattle.names.specs.Means.{if_fits}
-use Rattle.names.specs.WellFormed.{complete}
-use Rattle.names.proofs.Tests.{and_left, none≢Some, if_case}
-use Rattle.blocks.specs.Content.{object, symbolic, reads, unreadable, is_hex, lower_case, ends_line, skip_spaces, line, target_name_in, begins_hex, read_target, read_id, read}
-use Rattle.blocks.specs.Means.{id_in, is_id, parsed, kind_reading, kind_held, within_name}
-use Rattle.blocks.specs.declared.decode.TargetKind.{TargetKind}
-use Rattle.blocks.specs.declared.decode.TargetKind.TheVariants.{Object, Symbolic, Refused}
-use Rattle.blocks.specs.declared.decode.State.{State}
-use Rattle.blocks.specs.declared.decode.State.TheVariants.{Id, UnvalidatedPath, Neither}
+use Rattle.names.proofs.Held.{fits_is, fits_there, fits_not}
+use Rattle.names.proofs.Tests.{and_left}
+use Rattle.blocks.specs.Content.{object, symbolic, reads, unreadable, is_hex, ends_line, skip_spaces, line, target_name_in, begins_hex, read_target, read_id, read}
+use Rattle.blocks.specs.Means.{id_in, is_id, name_reading}
 use Rattle.blocks.proofs.Ids.{id_whole}
 
-pub digit_there : (s : Bytes) (i : ℕ) → i < length s → is_hex (get_or s i 0) ≡ begins_hex (drop i s)
+pub digit_got : (s : Bytes) (i : ℕ) (o : Option (Bor ℕ)) (r : Bool) {Q : Bor ℕ → Type 0} → MatchOption o (length s ≤ i) (λ x. (i < length s) × HoldsAt (λ y. x.now ≡ y) s i)
+    → MatchOption o (r ≡ false) Q → ((x : Bor ℕ) → Q x → r ≡ is_hex x.now) → r ≡ begins_hex (drop i s)
 unfolding begins_hex
-digit_there s i h = rw (drop-cons s i 0 h)
-
-pub digit_past : (s : Bytes) (i : ℕ) → length s ≤ i → false ≡ begins_hex (drop i s)
-unfolding begins_hex
-digit_past s i h = rw (drop_of_length-le s h)
+digit_got s i None r h e f = rw (e, drop_of_length-le s h)
+digit_got s i (Some x) r h e f = rw (f x e, drop-cons s i 0 h.0, h.1 0)
 
 pub target_short : (s : Bytes) → length s ≤ length (bytes "ref: ") → [] ≡ target_name_in s
 unfolding line skip_spaces
 target_short s h = rw (drop_of_length-le s h)
 
--- ---- by state
+-- ---- by how it begins
 
 module _ (width : ℕ) (s : Bytes) where
-  by_state : (P : State → Type 0)
-      → (starts_with (bytes "ref: ") s ≡ true → P UnvalidatedPath)
-      → (starts_with (bytes "ref: ") s ≡ false → is_id width s ≡ true → P Id)
-      → (starts_with (bytes "ref: ") s ≡ false → is_id width s ≡ false → P Neither)
-      → P (parsed width s)
-  by_state P f g h = if_case P (starts_with (bytes "ref: ") s) f (λ a. if_case P (is_id width s) (g a) (h a))
-
-  -- what each state says of the content
-  abbrev Says : State → Type 0
-  Says UnvalidatedPath = read width s ≡ read_target (target_name_in s)
-  Says Id = (read width s ≡ reads (object (lower_case (take width s)))) × (width ≤ length s)
-  Says Neither = read width s ≡ unreadable 10
-
-  path_says : starts_with (bytes "ref: ") s ≡ true → Says UnvalidatedPath
+  pub read_path : starts_with (bytes "ref: ") s ≡ true → read width s ≡ read_target (target_name_in s)
   unfolding read
-  path_says a = rw a
+  read_path a = rw a
 
-  id_says : starts_with (bytes "ref: ") s ≡ false → is_id width s ≡ true → Says Id
+  pub id_long : is_id width s ≡ true → width ≤ length s
+  id_long b = leb-true _ _ (and_left _ (every is_hex (take width s)) (and_left _ (not (begins_hex (drop width s))) b))
+
+  pub id_bound : is_id width s ≡ true → width ≡ length (take width s)
+  id_bound b = omega (arith, length-take width s, id_long b)
+
+  pub read_object : starts_with (bytes "ref: ") s ≡ false → is_id width s ≡ true → read width s ≡ reads (object (id_in width (take width s)))
   unfolding read read_id
-  id_says a b = (rw (a, b), leb-true _ _ (and_left _ (every is_hex (take width s)) (and_left _ (not (begins_hex (drop width s))) b)))
+  read_object a b =
+      let l : width ≤ length (take width s) = omega (arith, length-take width s, id_long b) in
+      rw (a, b, id_whole width (take width s) l, take-take width width s (omega arith))
 
-  neither_says : starts_with (bytes "ref: ") s ≡ false → is_id width s ≡ false → Says Neither
+  pub read_neither : starts_with (bytes "ref: ") s ≡ false → is_id width s ≡ false → read width s ≡ unreadable 10
   unfolding read read_id
-  neither_says a b = rw (a, b)
-
-  says : Says (parsed width s)
-  says = by_state Says path_says id_says neither_says
-
-  pub read_path : UnvalidatedPath ≡ parsed width s → read width s ≡ read_target (target_name_in s)
-  read_path e = rw (← e) at says
-
-  pub read_object : Id ≡ parsed width s → read width s ≡ reads (object (id_in width s))
-  read_object e = let h = rw (← e) at says in rw (id_whole width s h.1) h.0
-
-  pub read_neither : Neither ≡ parsed width s → read width s ≡ unreadable 10
-  read_neither e = rw (← e) at says
+  read_neither a b = rw (a, b)
 
 -- ---- targets
 
-pub target_complete : (t : Bytes) → complete t ≡ true → read_target t ≡ reads (symbolic t)
-unfolding read_target
-target_complete t e = rw e
+-- a name was made of t, or none holds it
+pub name_made : (c t : Bytes) → Some c ≡ if_fits t → reads (symbolic c) ≡ name_reading t
+name_made c t e = rw (fits_there t c e, fits_is t c e)
 
-pub target_unsupported : (t : Bytes) → complete t ≡ false → same t (bytes "refs/heads/.invalid") ≡ true → read_target t ≡ unreadable 12
-unfolding read_target
-target_unsupported t e f = rw (e, f)
-
-pub target_incomplete : (t : Bytes) → complete t ≡ false → same t (bytes "refs/heads/.invalid") ≡ false → read_target t ≡ unreadable 11
-unfolding read_target
-target_incomplete t e f = rw (e, f)
-
--- c was made of t, if a name can hold t: then kind, id and c say what kind, id and t do, as far as a struct can hold it
-pub name_made : (ok : Bool) (c t : Bytes) → (if ok then Some c else None) ≡ if_fits t → (k : TargetKind) (id : Bytes) → kind_reading (kind_held ok k) id c ≡ within_name (kind_reading k id t)
-name_made ok c t made k id = go ok (fits t) refl made k
-  where
-    some_eq : Some c ≡ Some t → c ≡ t
-    some_eq e = cc
-
-    go : (o f : Bool) → fits t ≡ f → (if o then Some c else None) ≡ (if f then Some t else None) → (k : TargetKind) → kind_reading (kind_held o k) id c ≡ within_name (kind_reading k id t)
-    go true true f e Object = refl
-    go true true f e Symbolic = rw (f, some_eq e)
-    go true true f e (Refused why) = refl
-    go true false f e k = none≢Some (sym e)
-    go false true f e k = none≢Some e
-    go false false f e Object = refl
-    go false false f e Symbolic = rw f
-    go false false f e (Refused why) = refl
+pub no_name : (t : Bytes) → None ≡ if_fits t → unreadable 11 ≡ name_reading t
+no_name t e = rw (fits_not t e)
 
 -- ---- a content of a block
 

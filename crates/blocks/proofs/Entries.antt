@@ -1,6 +1,6 @@
 -- The entry of a block of a region.
 use mathlib.Core.Path.{◌≡◌}
-use mathlib.Core.Bool.{true, not}
+use mathlib.Core.Bool.{true, false, not}
 use mathlib.Core.List.{◌∷◌}
 use Rattle.std.specs.Prelude.{None, Some}
 use Prim.Native.Nat.{ℕ, ◌+◌, ◌≤◌, ◌<◌}
@@ -10,8 +10,8 @@ use borrow.Author.Tests.{not-true}
 use lib.ListN.{length, drop, drop_of_length-le}
 use lib.Seq.{drop-cons}
 use Rattle.names.specs.Bytes.{Bytes}
-use Rattle.blocks.specs.Block.{Region, block_name, block_content, sound}
-use Rattle.blocks.specs.Entry.{damaged, entry, entries}
+use Rattle.blocks.specs.Block.{Region, block_kind, block_name, block_content, sound}
+use Rattle.blocks.specs.Entry.{damaged, entry_of, entry, entries}
 use Rattle.blocks.specs.Means.{block_at, block_count, name_within, content_within, taken_entry, entry_in}
 use Rattle.blocks.proofs.Walks.{length_entries, entry_at}
 use Rattle.blocks.proofs.Parts.{name_held, content_held}
@@ -37,6 +37,14 @@ module _ (width : ℕ) (r : Region) where
     pub entry_damaged : not (sound width r b) ≡ true → entry width r b ≡ damaged
     unfolding entry
     entry_damaged e = rw (not-true (sound width r b) e)
+
+    pub entry_unsound : sound width r b ≡ false → damaged ≡ entry width r b
+    unfolding entry
+    entry_unsound e = rw e
+
+    pub entry_is : sound width r b ≡ true → entry_of width (block_kind b) (block_name b) (block_content b) ≡ entry width r b
+    unfolding entry
+    entry_is e = rw e
 
     -- name and content of a sound block are held whole
     pub sound_name : sound width r b ≡ true → name_within b ≡ block_name b

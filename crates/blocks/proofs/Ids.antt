@@ -1,36 +1,65 @@
 -- Ids in lower case, byte by byte.
-use mathlib.Core.Path.{◌≡◌, refl}
-use Prim.Native.Nat.{ℕ, zero, suc, ◌+◌, ◌≤◌, ◌<◌}
-use mathlib.Core.List.{[], ◌∷◌, ◌++◌, map-append}
+use mathlib.Core.Path.{◌≡◌, refl, ap, ◌∙◌}
+use mathlib.Core.Bool.{Bool, true, false}
+use Prim.Native.Nat.{ℕ, suc, ◌+◌, ◌-◌, ◌≤◌, ◌<◌}
+use mathlib.Core.List.{◌∷◌, ◌++◌, map-append}
 use native.Mathlib.Numerals.{add-one}
 use native.Mathlib.Omega.{arith}
-use lib.ListN.{length, take, get_or, set, replicate, length-append, length-replicate}
-use lib.Seq.{take-suc, take-suc-set, take-append-le}
+use borrow.Author.Tests.{leb-true, leb-false}
+use lib.Dec.{leb}
+use lib.ListN.{length, take, drop, get_or, set, replicate, length-take, length-append, length-replicate}
+use lib.Seq.{drop-cons, take-suc, take-append-le, take-append-add, take_all, append_snoc}
+use Rattle.std.specs.Prelude.{min}
+use Rattle.std.specs.Char.{to_ascii_lowercase}
+use Rattle.std.proofs.Common.{append-nil, drop_of_length-le}
+use Rattle.std.proofs.Math.Nat.{min-eq_left, min-eq_right}
+use Rattle.std.proofs.lemmas.List.{drop-replicate, take-replicate, length-map, set-append_right, get_or-append_right}
 use Rattle.names.specs.Bytes.{Bytes}
 use Rattle.blocks.specs.Content.{lower, lower_case}
-use Rattle.blocks.specs.Means.{id_in}
+use Rattle.blocks.specs.Means.{padded, id_in}
 
--- zeros behind s change none of its bytes
-abbrev pub padded : ℕ → Bytes → Bytes
-padded n s = s ++ replicate n 0
+-- zeros, of which the first n are copied over
+pub padded_is : (width n : ℕ) (s c z : Bytes) → n ≡ min (length s) width → c ≡ take n s → z ≡ replicate width 0 → c ++ drop n z ≡ take width (padded width s)
+padded_is width n s c z m e r = rw (r, e, drop-replicate {X = ℕ} n width 0) (go (leb (length s) width) refl)
+  where
+    short : length s ≤ width → take n s ++ replicate (width - n) 0 ≡ take width (padded width s)
+    short h =
+        let k : n ≡ length s = m ∙ min-eq_left h in
+        let l : length s + (width - length s) ≡ width = omega arith in
+        rw (k, take_all (length s) s (omega arith), ← take-replicate {X = ℕ} (width - length s) width 0 (omega arith), ← take-append-add s (replicate width 0) (width - length s), l)
 
-getD_zeros : (n i : ℕ) → ◌≡◌ {A = ℕ} (get_or (replicate n 0) i 0) 0
-getD_zeros zero i = refl
-getD_zeros (suc n) zero = refl
-getD_zeros (suc n) (suc i) = getD_zeros n i
+    long : width ≤ length s → take n s ++ replicate (width - n) 0 ≡ take width (padded width s)
+    long h =
+        let k : n ≡ width = m ∙ min-eq_right h in
+        let z : width - width ≡ 0 = omega arith in
+        rw (k, z, append-nil, take-append-le width s (replicate width 0) h)
 
-getD_padded : (n : ℕ) (s : Bytes) (i : ℕ) → get_or (padded n s) i 0 ≡ get_or s i 0
-getD_padded n [] i = getD_zeros n i
-getD_padded n (x ∷ s) zero = refl
-getD_padded n (x ∷ s) (suc i) = getD_padded n s i
+    go : (t : Bool) → leb (length s) width ≡ t → take n s ++ replicate (width - n) 0 ≡ take width (padded width s)
+    go true t = short (leb-true _ _ t)
+    go false t = let h = leb-false _ _ t in long (omega arith)
 
--- digit i of n put into d
-pub digit_more : (n : ℕ) (s d : Bytes) (i v : ℕ) → i < n → length d ≡ n → v ≡ lower (get_or s i 0)
-    → take i d ≡ lower_case (take i (padded n s)) → take (i + 1) (set d i v) ≡ lower_case (take (i + 1) (padded n s))
-digit_more n s d i v h l e before =
-    let w : i < length d = omega arith in
-    let p : i < length (padded n s) = simp (length-append, length-replicate) (omega arith) in
-    rw (add-one, take-suc-set d i v w, take-suc (padded n s) i 0 p, map-append, before, getD_padded n s i, e)
+pub length_padded : (width : ℕ) (s : Bytes) → length (take width (padded width s)) ≡ width
+length_padded width s = simp (length-take, length-append, length-replicate) (omega arith)
+
+pub lower_is : (b : ℕ) → to_ascii_lowercase b ≡ lower b
+lower_is b = grind arith
+
+-- one byte more in lower case
+pub lower_more : (s d : Bytes) (i v : ℕ) → i < length s → v ≡ to_ascii_lowercase (get_or d i 0) → d ≡ lower_case (take i s) ++ drop i s
+    → set d i v ≡ lower_case (take (i + 1) s) ++ drop (i + 1) s
+lower_more s d i v h e before =
+    let front = lower_case (take i s) in
+    let n : length front ≡ i = length-map (take i s) lower ∙ omega (arith, length-take i s) in
+    let x = get_or s i 0 in
+    let now : d ≡ front ++ x ∷ drop (suc i) s = rw (before, drop-cons s i 0 h) in
+    let z : i - i ≡ 0 = omega arith in
+    let at : get_or d i 0 ≡ x = rw (now, get_or-append_right front (x ∷ drop (suc i) s) i i 0 n (omega arith), z) in
+    let put : set d i v ≡ front ++ v ∷ drop (suc i) s = rw (now, set-append_right front (x ∷ drop (suc i) s) i i v n (omega arith), z) in
+    let w : v ≡ lower x = e ∙ (ap to_ascii_lowercase at ∙ lower_is x) in
+    rw (put, w, add-one, take-suc s i 0 h, map-append, append_snoc)
+
+pub lower_all : (s d : Bytes) (i : ℕ) → length s ≤ i → d ≡ lower_case (take i s) ++ drop i s → d ≡ lower_case s
+lower_all s d i h before = rw (before, drop_of_length-le s h, append-nil, take_all i s h)
 
 -- an id that is all there
 pub id_whole : (width : ℕ) (s : Bytes) → width ≤ length s → id_in width s ≡ lower_case (take width s)

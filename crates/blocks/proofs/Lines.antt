@@ -1,43 +1,56 @@
 -- Spaces and lines, byte by byte.
-use mathlib.Core.Path.{◌≡◌}
-use mathlib.Core.Bool.{true, false}
-use mathlib.Core.Logic.{◌⊎◌, ⊎_elim, inl, inr}
-use mathlib.Core.List.{◌++◌, append-nil}
-use Prim.Native.Nat.{ℕ, ◌+◌, ◌≤◌, ◌<◌}
+use Rattle.std.specs.Prelude.{if◌then◌else◌}
+use Rattle.std.specs.Prelude.{Option}
+use Rattle.std.specs.List.{AllWithin, HoldsAt}
+use Rattle.std.specs.Option.{MatchOption, unwrap_or}
+use Rattle.std.proofs.lemmas.Iterator.{index_from_first}
+use mathlib.Core.Path.{◌≡◌, refl, ap}
+use mathlib.Core.Bool.{Bool, true, false}
+use mathlib.Core.List.{[], ◌∷◌}
+use Prim.Native.Nat.{ℕ, ◌+◌, ◌<◌}
 use native.Mathlib.Numerals.{add-one}
 use borrow.Author.Tests.{eq-eqb, ne_eqb}
-use lib.ListN.{length, take, drop, get_or, drop_of_length-le}
-use lib.Seq.{drop-cons, take-suc, take_all, append_snoc}
+use lib.Dec.{eqb}
+use lib.ListN.{length, take, drop}
 use Rattle.names.specs.Bytes.{Bytes}
 use Rattle.blocks.specs.Content.{ends_line, skip_spaces, line}
 
-module _ (s : Bytes) (i : ℕ) where
-  pub spaces_more : i < length s → get_or s i 0 ≡ 32 → skip_spaces (drop i s) ≡ skip_spaces (drop (i + 1) s)
-  unfolding skip_spaces
-  spaces_more h e = rw (add-one, drop-cons s i 0 h, eq-eqb (get_or s i 0) 32 e)
+-- how many spaces stand in front
+abbrev pub spaces_in : Bytes → ℕ
+spaces_in [] = 0
+spaces_in (b ∷ s) = if eqb b 32 then spaces_in s + 1 else 0
 
-  pub spaces_done : i < length s → (get_or s i 0 ≡ 32 → ⊥) → skip_spaces (drop i s) ≡ drop i s
-  unfolding skip_spaces
-  spaces_done h e = rw (drop-cons s i 0 h, ne_eqb (get_or s i 0) 32 e)
+pub drop_spaces : (s : Bytes) → drop (spaces_in s) s ≡ skip_spaces s
+unfolding skip_spaces
+drop_spaces [] = refl
+drop_spaces (b ∷ s) = go (eqb b 32) (drop_spaces s)
+  where
+    go : (t : Bool) → drop (spaces_in s) s ≡ skip_spaces s → drop (if t then spaces_in s + 1 else 0) (b ∷ s) ≡ (if t then skip_spaces s else b ∷ s)
+    go true ih = rw add-one ih
+    go false ih = refl
 
-  pub spaces_end : length s ≤ i → skip_spaces (drop i s) ≡ drop i s
-  unfolding skip_spaces
-  spaces_end h = rw (drop_of_length-le s h)
+-- how many bytes stand before the line's end
+abbrev pub line_length : Bytes → ℕ
+line_length [] = 0
+line_length (b ∷ s) = if ends_line b then 0 else line_length s + 1
 
-  pub line_more : i < length s → ends_line (get_or s i 0) ≡ false → line s ≡ take i s ++ line (drop i s) → line s ≡ take (i + 1) s ++ line (drop (i + 1) s)
-  unfolding line
-  line_more h e before = rw (before, add-one, drop-cons s i 0 h, e, take-suc s i 0 h, append_snoc)
+pub take_line : (s : Bytes) → take (line_length s) s ≡ line s
+unfolding line
+take_line [] = refl
+take_line (b ∷ s) = go (ends_line b) (take_line s)
+  where
+    go : (t : Bool) → take (line_length s) s ≡ line s → take (if t then 0 else line_length s + 1) (b ∷ s) ≡ (if t then [] else b ∷ line s)
+    go true ih = refl
+    go false ih = rw add-one (ap (λ (t : Bytes). b ∷ t) ih)
 
-  pub line_done : i < length s → ends_line (get_or s i 0) ≡ true → line s ≡ take i s ++ line (drop i s) → take i s ≡ line s
-  unfolding line
-  line_done h e before = rw (before, drop-cons s i 0 h, e, append-nil)
+-- the first hit of a search, or none, as a number of bytes before it
+abbrev pub FirstOf : (ℕ → Type 0) → (ℕ → Type 0) → Bytes → Option ℕ → Type 0
+FirstOf Yes No s r = MatchOption r (AllWithin No s 0 (length s)) (λ i. (i < length s) × HoldsAt Yes s i × AllWithin No s 0 i)
 
-  pub line_all : length s ≤ i → line s ≡ take i s ++ line (drop i s) → s ≡ line s
-  unfolding line
-  line_all h before = rw (before, drop_of_length-le s h, append-nil, take_all i s h)
+pub spaces_found : (s : Bytes) (r : Option ℕ) → FirstOf (λ b. b ≡ 32 → ⊥) (λ b. b ≡ 32) s r → spaces_in s ≡ unwrap_or r (length s)
+spaces_found s r h =
+    index_from_first spaces_in (λ b. b ≡ 32 → ⊥) (λ b. b ≡ 32) refl (λ b t e. rw (ne_eqb b 32 e)) (λ b t e. rw (eq-eqb b 32 e)) s r h
 
-pub line_end : (b : ℕ) → (b ≡ 0) ⊎ ((b ≡ 10) ⊎ (b ≡ 13)) → true ≡ ends_line b
-line_end b = ⊎_elim (λ e. rw e) (⊎_elim (λ e. rw e) (λ e. rw e))
-
-pub no_line_end : (b : ℕ) → ((b ≡ 0) ⊎ ((b ≡ 10) ⊎ (b ≡ 13)) → ⊥) → false ≡ ends_line b
-no_line_end b h = rw (ne_eqb b 0 (λ e. h (inl e)), ne_eqb b 13 (λ e. h (inr (inr e))), ne_eqb b 10 (λ e. h (inr (inl e))))
+pub end_found : (s : Bytes) (r : Option ℕ) → FirstOf (λ b. ends_line b ≡ true) (λ b. ends_line b ≡ false) s r → line_length s ≡ unwrap_or r (length s)
+end_found s r h =
+    index_from_first line_length (λ b. ends_line b ≡ true) (λ b. ends_line b ≡ false) refl (λ b t e. rw e) (λ b t e. rw e) s r h

@@ -6,16 +6,19 @@ use native.Mathlib.Nat.{add-sub_cancel_left}
 use native.Mathlib.Omega.{arith}
 use mathlib.Core.List.{[]}
 use mathlib.Core.Bool.{Bool, true, false}
-use Rattle.std.specs.Prelude.{Some}
-use borrow.Author.Tests.{leb-true, le-leb, lt-leb, ne_eqb}
+use Rattle.std.specs.Prelude.{Option, None, Some}
+use Rattle.std.specs.Borrow.{Bor}
+use Rattle.std.specs.Option.{MatchOption, unwrap_or}
+use mathlib.Core.Logic.{◌⊎◌, ⊎_elim}
+use borrow.Author.Tests.{leb-true, le-leb, lt-leb}
 use lib.Dec.{leb, ltb}
-use lib.ListN.{length, take, drop, length-take, length-drop}
+use lib.ListN.{length, take, drop, length-take, length-drop, drop_of_length-le}
 use lib.Seq.{take_all}
 use Rattle.names.specs.Bytes.{Bytes}
 use Rattle.names.specs.Name.{longest}
 use Rattle.blocks.specs.Layout.{block_size, name_at, content_at, longest_content}
 use Rattle.blocks.specs.Block.{between, name_length, content_length, block_name, block_content}
-use Rattle.blocks.specs.Entry.{failed, loose, unread, packed_record, peeled_in, entry_of}
+use Rattle.blocks.specs.Entry.{loose, packed_record, peeled_in, entry_of}
 use Rattle.blocks.specs.Means.{block_at, block_count, name_within, content_within, name_in, content_in}
 
 -- a part that begins at a and has n bytes
@@ -30,17 +33,21 @@ pub length_block : (s : Bytes) (k : ℕ) → k < block_count s → length (block
 length_block s k h = simp (length-take, length-drop) (omega arith)
 
 module _ (b : Bytes) where
-  pub name_over : longest < name_length b → [] ≡ name_within b
-  name_over h = rw (lt-leb (name_length b) longest h)
-
   pub name_held : name_length b ≤ longest → name_within b ≡ block_name b
   name_held h = rw (le-leb (name_length b) longest h)
 
-  pub content_over : longest_content < content_length b → [] ≡ content_within b
-  content_over h = rw (lt-leb (content_length b) longest_content h)
-
   pub content_held : content_length b ≤ longest_content → content_within b ≡ block_content b
   content_held h = rw (le-leb (content_length b) longest_content h)
+
+-- how long they are, where the lengths are right
+module _ (b : Bytes) (l : length b ≡ block_size) where
+  pub name_long : name_length b ≤ longest → length (block_name b) ≡ name_length b
+  unfolding block_name
+  name_long h = simp (length-take, length-drop) (omega arith)
+
+  pub content_long : content_length b ≤ longest_content → length (block_content b) ≡ content_length b
+  unfolding block_content
+  content_long h = simp (length-take, length-drop) (omega arith)
 
 -- ---- names and contents are short enough
 
@@ -72,20 +79,31 @@ content_short s k = in_longest longest_content (ltb k (block_count s)) _ (conten
 
 -- ---- entries
 
+-- a record of one id, and of two
+module _ (width : ℕ) (n c : Bytes) where
+  pub one_id : length c ≤ width → packed_record n c None ≡ entry_of width 4 n c
+  unfolding entry_of
+  one_id h = rw (le-leb (length c) width h, take_all width c h)
+
+  pub two_ids : width < length c → packed_record n (take width c) (Some (drop width c)) ≡ entry_of width 4 n c
+  unfolding entry_of
+  two_ids h = rw (lt-leb (length c) width h)
+
 -- what the kind tells of a block that is taken for sound
 module _ (width k : ℕ) (n c : Bytes) where
   pub taken_loose : k ≡ 1 → Some (loose n c) ≡ Some (entry_of width k n c)
   unfolding entry_of
   taken_loose e = rw e
 
-  pub taken_unread : k ≡ 2 → Some (unread n) ≡ Some (entry_of width k n c)
-  unfolding entry_of
-  taken_unread e = rw e
-
   pub taken_record : k ≡ 4 → Some (packed_record n (take width c) (peeled_in width c)) ≡ Some (entry_of width k n c)
   unfolding entry_of
   taken_record e = rw e
 
-  pub taken_failed : (k ≡ 1 → ⊥) → (k ≡ 2 → ⊥) → (k ≡ 4 → ⊥) → Some failed ≡ Some (entry_of width k n c)
-  unfolding entry_of
-  taken_failed a b d = rw (ne_eqb k 1 a, ne_eqb k 2 b, ne_eqb k 4 d)
+-- what `get` gives of the part from i on, or else nothing
+pub rest_got : (s : Bytes) (i : ℕ) (o : Option (Bor Bytes)) (d r : Bor Bytes) → d.now ≡ []
+    → MatchOption o ((length s < i) ⊎ (length s < length s)) (λ x. (i ≤ length s) × (length s ≤ length s) × (x.now ≡ take (length s - i) (drop i s)) × (length x.now + i ≡ length s))
+    → r ≡ unwrap_or o d → r.now ≡ drop i s
+rest_got s i None d r e h f =
+    let l : length s ≤ i = ⊎_elim (λ a. omega arith) (λ a. omega arith) h in
+    rw (f, e, drop_of_length-le s l)
+rest_got s i (Some x) d r e h f = rw (f, h.2, rest_is s i)

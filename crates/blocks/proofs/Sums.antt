@@ -1,12 +1,12 @@
 -- The weighted sum by parts, and sums that are 0.
 use mathlib.Core.Path.{◌≡◌, refl, ap}
 use mathlib.Core.List.{[], ◌∷◌}
-use mathlib.Core.Bool.{Bool, true, false, ◌&&◌}
+use mathlib.Core.Bool.{true, ◌&&◌}
 use Prim.Native.Nat.{ℕ, suc, ◌+◌, ◌*◌, ◌-◌, ◌≤◌, ◌<◌}
 use native.Mathlib.Nat.{mul-le-mul_left}
 use native.Mathlib.Numerals.{add-one}
 use native.Mathlib.Omega.{arith}
-use borrow.Author.Tests.{eq-eqb, ne_eqb, eqb-true, eqb-false}
+use borrow.Author.Tests.{eqb-true}
 use lib.Dec.{eqb}
 use lib.ListN.{length, take, drop, get_or, length-take, length-drop}
 use lib.Seq.{take-suc, take-add, drop-drop}
@@ -15,9 +15,9 @@ use Rattle.names.proofs.Tests.{and_left, and_right}
 use Rattle.names.proofs.Walks.{every_more}
 use Rattle.blocks.specs.Layout.{zero_at, name_at, content_at, sum_at}
 use Rattle.blocks.specs.Block.{between, name_length, content_length, block_name, block_content, is_zero, unused_zero, weighted}
-use Rattle.blocks.specs.Means.{name_within, content_within, Within}
+use Rattle.blocks.specs.Means.{Within}
 use Rattle.blocks.proofs.Walks.{weighted_append}
-use Rattle.blocks.proofs.Parts.{part_is, name_held, content_held}
+use Rattle.blocks.proofs.Parts.{part_is}
 
 -- one byte more of a part
 pub weighted_more : (k : ℕ) (s : Bytes) (i : ℕ) → i < length s → weighted k (take (i + 1) s) ≡ weighted k (take i s) + (k + i + 1) * get_or s i 0
@@ -81,18 +81,3 @@ module _ (b : Bytes) (w : Within b) (z : unused_zero b ≡ true) where
       let name_is = ap (weighted name_at) (part_is b name_at (name_length b)) in
       let content_is = ap (weighted content_at) (part_is b content_at (content_length b)) in
       omega arith
-
-  pub used_within : (h x y : ℕ) (n t : Bytes) → h ≡ weighted 0 (take zero_at b) → n ≡ name_within b → t ≡ content_within b → x ≡ weighted name_at n → y ≡ weighted content_at t → h + x + y ≡ weighted 0 (take sum_at b)
-  used_within h x y n t header name content first second = rw (header, first, second, name, content, name_held b w.name, content_held b w.content, used_sum)
-
--- a sum is 0 where both parts are
-pub eqb_sum : (a b : ℕ) → eqb (a + b) 0 ≡ (eqb a 0 && eqb b 0)
-eqb_sum a b = go (eqb a 0) (eqb b 0) refl refl
-  where
-    go : (t u : Bool) → eqb a 0 ≡ t → eqb b 0 ≡ u → eqb (a + b) 0 ≡ (t && u)
-    go true true e f =
-        let x = eqb-true a 0 e in
-        let y = eqb-true b 0 f in
-        eq-eqb (a + b) 0 (omega arith)
-    go true false e f = ne_eqb (a + b) 0 (λ z. eqb-false b 0 f (omega arith))
-    go false u e f = ne_eqb (a + b) 0 (λ z. eqb-false a 0 e (omega arith))

@@ -1,33 +1,34 @@
 -- What the code's types mean, and parts that its answers speak of.
-use Rattle.std.specs.Prelude.{◌≡◌, ℕ, zero, suc, ◌+◌, ◌*◌, ◌/◌, ◌≤◌, List, [], ◌∷◌, ◌++◌, Bool, true, false, ◌&&◌, not, leb, ltb, length, take, drop, replicate, if◌then◌else◌}
-use Rattle.std.specs.Prelude.{Option, None, Some}
-use Rattle.names.specs.Bytes.{Bytes, bytes, starts_with, every}
+use Rattle.std.specs.Prelude.{◌≡◌, ℕ, ◌+◌, ◌*◌, ◌/◌, ◌≤◌, List, [], ◌∷◌, ◌++◌, Bool, true, false, ◌&&◌, not, leb, ltb, length, take, drop, replicate, if◌then◌else◌}
+use Rattle.std.specs.Prelude.{Option, None, Some, Result, Ok, Err, option_copied}
+use Rattle.std.specs.Option.{option_map}
+use Rattle.std.specs.Result.{result_err}
+use Rattle.names.specs.Bytes.{Bytes, every}
 use Rattle.names.specs.Check.{Check}
 use Rattle.names.specs.Name.{longest, fits}
 use Rattle.names.specs.Means.{content}
 use Rattle.blocks.specs.Layout.{block_size, longest_content, sum_at}
-use Rattle.blocks.specs.Block.{Region, two_bytes, block_kind, name_length, content_length, block_name, block_content}
+use Rattle.blocks.specs.Block.{Region, two_bytes, block_kind, name_length, content_length, block_name, block_content, sound}
 use Rattle.blocks.specs.Content.{object, symbolic, Reading, reads, unreadable, is_hex, lower_case, begins_hex}
 pub use Rattle.blocks.specs.Content.{target_name_in}
 use Rattle.blocks.specs.Entry.{Entry, damaged, failed, loose, unread, packed_record, entry_of, entries}
-use Rattle.blocks.specs.Fitness.{Flaw, flaw_or}
-use Rattle.blocks.specs.Snapshot.{Snapshot}
+use Rattle.blocks.specs.Fitness.{Flaw}
+use Rattle.blocks.specs.Snapshot.{Snapshot, or_empty}
 use Rattle.blocks.specs.declared.block.Region as code
-use Rattle.blocks.specs.declared.block.EntryKind.{EntryKind}
-use Rattle.blocks.specs.declared.block.EntryKind.TheVariants.{End, Damaged, Failed, Loose, Unread, Record, PeeledRecord}
-use Rattle.blocks.specs.declared.decode.State.{State}
-use Rattle.blocks.specs.declared.decode.State.TheVariants.{Id, UnvalidatedPath, Neither}
+use Rattle.blocks.specs.declared.snapshot.Snapshot as lent
+use Rattle.blocks.specs.declared.block.Kind.{Kind}
+use Rattle.blocks.specs.declared.block.Kind.TheVariants as kind
+use Rattle.blocks.specs.declared.block.Entry as held
 use Rattle.blocks.specs.declared.decode.Refusal.{Refusal}
 use Rattle.blocks.specs.declared.decode.Refusal.TheVariants.{Unreadable, Incomplete, Unsupported}
-use Rattle.blocks.specs.declared.decode.TargetKind.{TargetKind}
-use Rattle.blocks.specs.declared.decode.TargetKind.TheVariants.{Object, Symbolic, Refused}
+use Rattle.blocks.specs.declared.decode.TargetRef.{TargetRef}
+use Rattle.blocks.specs.declared.decode.TargetRef.TheVariants as ref
 use Rattle.blocks.specs.declared.decode.Target as decoded
-use Rattle.blocks.specs.declared.fitness.Sizes.{Sizes}
-use Rattle.blocks.specs.declared.fitness.Sizes.TheVariants.{Right, NotWhole, TooMany}
+use Rattle.blocks.specs.declared.fitness.SizeError.{SizeError}
+use Rattle.blocks.specs.declared.fitness.SizeError.TheVariants.{NotWhole, TooMany}
 use Rattle.blocks.specs.declared.fitness.Reason.{Reason}
 use Rattle.blocks.specs.declared.fitness.Reason.TheVariants as reason
-use Rattle.blocks.specs.declared.fitness.Verdict.{Verdict}
-use Rattle.blocks.specs.declared.fitness.Verdict.TheVariants.{Fit, Unfit}
+use Rattle.blocks.specs.declared.fitness.Unfit.{Unfit}
 
 -- "Object ids have 40 hexadecimal digits"
 abbrev pub id_width : ℕ
@@ -63,15 +64,29 @@ content_within b = if leb (content_length b) longest_content then block_content 
 abbrev pub taken_entry : ℕ → Bytes → Entry
 taken_entry width b = entry_of width (block_kind b) (name_within b) (content_within b)
 
--- an entry, or none past the region's end: by the kind, with name and content beside it
-abbrev pub as_entry : ℕ → EntryKind → Bytes → Bytes → Option Entry
-as_entry width End n c = None
-as_entry width Damaged n c = Some damaged
-as_entry width Failed n c = Some failed
-as_entry width Loose n c = Some (loose n c)
-as_entry width Unread n c = Some (unread n)
-as_entry width Record n c = Some (packed_record n (take width c) None)
-as_entry width PeeledRecord n c = Some (packed_record n (take width c) (Some (drop width c)))
+-- no region has this block undamaged
+abbrev pub NeverSound : Bytes → Type 0
+NeverSound b = (r : Region) → sound id_width r b ≡ false
+
+-- "1 loose file, 2 loose file that could not be read, 3 walk error, 4 packed record, 5 packed error"
+abbrev pub kind_number : Kind → ℕ
+kind_number kind.Loose = 1
+kind_number kind.Unread = 2
+kind_number kind.WalkError = 3
+kind_number kind.Record = 4
+kind_number kind.PackedError = 5
+
+-- a byte that is one of these numbers
+abbrev pub a_kind : ℕ → Option ℕ
+a_kind b = if leb 1 b && leb b 5 then Some b else None
+
+-- what the enum says
+abbrev pub entry_as : held.Entry → Entry
+entry_as held.TheVariants.Damaged = damaged
+entry_as held.TheVariants.Failed = failed
+entry_as (held.TheVariants.Loose n c) = loose n.now c.now
+entry_as (held.TheVariants.Unread n) = unread n.now
+entry_as (held.TheVariants.Record n t p) = packed_record n.now t.now (option_copied p)
 
 -- ---- the blocks of a region
 
@@ -104,16 +119,15 @@ entry_in width r s i = first (drop i (entries width r s))
 abbrev pub taken_in : ℕ → Bytes → ℕ → Option Entry
 taken_in width s i = if ltb i (block_count s) then Some (taken_entry width (block_at s i)) else None
 
--- the name before block i, if there is one
-unfoldable pub name_before : Bytes → ℕ → Option Bytes
-name_before s zero = None
-name_before s (suc i) = Some (name_within (block_at s i))
-
 -- ---- ids
+
+-- s, with zeros behind it
+abbrev pub padded : ℕ → Bytes → Bytes
+padded n s = s ++ replicate n 0
 
 -- the id that s begins with, zeros following where s is shorter
 abbrev pub id_in : ℕ → Bytes → Bytes
-id_in width s = lower_case (take width (s ++ replicate width 0))
+id_in width s = lower_case (take width (padded width s))
 
 -- an id's digits stand in front
 abbrev pub begins_with_id : ℕ → Bytes → Bool
@@ -125,38 +139,29 @@ is_id width s = begins_with_id width s && not (begins_hex (drop width s))
 
 -- ---- loose contents
 
--- `parse`
-abbrev pub parsed : ℕ → Bytes → State
-parsed width s = if starts_with (bytes "ref: ") s then UnvalidatedPath else if is_id width s then Id else Neither
-
 -- 10 "content unreadable as a reference", 11 "target not complete, 12 apart", 12 "target `refs/heads/.invalid`"
 abbrev pub refusal_number : Refusal → ℕ
 refusal_number Unreadable = 10
 refusal_number Incomplete = 11
 refusal_number Unsupported = 12
 
--- what the kind says, with the id and the name beside it
-abbrev pub kind_reading : TargetKind → Bytes → Bytes → Reading
-kind_reading Object id name = reads (object id)
-kind_reading Symbolic id name = reads (symbolic name)
-kind_reading (Refused why) id name = unreadable (refusal_number why)
+-- what a content points to, its parts in it
+abbrev pub read_as : Result TargetRef Refusal → Reading
+read_as (Ok (ref.Object digits)) = reads (object (id_in id_width digits.now))
+read_as (Ok (ref.Symbolic name)) = reads (symbolic name.now)
+read_as (Err why) = unreadable (refusal_number why)
 
--- what the struct says
-abbrev pub reading_of : decoded.Target → Reading
-reading_of t = kind_reading t.kind t.id.digits (content t.name)
+-- what a target says that is held by itself
+abbrev pub reading_of : Result decoded.Target Refusal → Reading
+reading_of (Ok (decoded.TheVariants.Object id)) = reads (object id.digits)
+reading_of (Ok (decoded.TheVariants.Symbolic name)) = reads (symbolic (content name))
+reading_of (Err why) = unreadable (refusal_number why)
 
 -- a target that no name can hold is refused 11; no content of a block has one
 abbrev pub name_reading : Bytes → Reading
 name_reading t = if fits t then reads (symbolic t) else unreadable 11
 
--- the kind of a target, by whether a name holds what it names: a symbolic one that none holds is refused 11
-abbrev pub kind_held : Bool → TargetKind → TargetKind
-kind_held true kind = kind
-kind_held false Object = Object
-kind_held false Symbolic = Refused Incomplete
-kind_held false (Refused why) = Refused why
-
--- a reading that the struct can hold
+-- a reading that can be held
 abbrev pub within_name : Reading → Reading
 within_name (reads (object id)) = reads (object id)
 within_name (reads (symbolic t)) = name_reading t
@@ -169,15 +174,28 @@ abbrev pub if_there : Bool → Bytes → Option Bytes
 if_there true s = Some s
 if_there false s = None
 
+-- the snapshot of three regions of bytes
+abbrev pub snapshot_from : Bytes → Option Bytes → Bytes → Snapshot
+snapshot_from w c p = record { worktree = w; common = c; packed = p }
+
 -- the snapshot of three regions that were lent
-abbrev pub snapshot_of : Bytes → Option Bytes → Bytes → Snapshot
-snapshot_of w c p = record { worktree = w; common = c; packed = p }
+abbrev pub snapshot_of : lent.Snapshot → Snapshot
+snapshot_of s = snapshot_from s.worktree.now (option_copied s.common) s.packed.now
+
+-- the bytes of a region, where an absent one has none
+abbrev pub region_bytes : Snapshot → Region → Bytes
+region_bytes s Region.worktree = s.worktree
+region_bytes s Region.common = or_empty s.common
+region_bytes s Region.packed = s.packed
 
 -- 1 "size not a multiple of 512", 2 "over 4,096 blocks"
-abbrev pub sizes_check : Sizes → Check
-sizes_check Right = None
-sizes_check NotWhole = Some 1
-sizes_check TooMany = Some 2
+abbrev pub size_number : SizeError → ℕ
+size_number NotWhole = 1
+size_number TooMany = 2
+
+-- the check that the answer is of
+abbrev pub sizes_check : Result Unit SizeError → Check
+sizes_check r = option_map size_number (result_err r)
 
 -- 6 "damaged", 7 "kind 3 or 5", 8 "name not above the one before"
 abbrev pub reason_number : Reason → ℕ
@@ -185,11 +203,14 @@ reason_number reason.Damaged = 6
 reason_number reason.ErrorKind = 7
 reason_number reason.NotAbove = 8
 
--- no flaw, or number, region and block
-abbrev pub flaw_of : Verdict → Option Flaw
-flaw_of Fit = None
-flaw_of (Unfit why r i) = Some (record { number = reason_number why; region = region_of r; block = i })
+-- the check that the answer is of
+abbrev pub reason_check : Result Unit Reason → Check
+reason_check r = option_map reason_number (result_err r)
 
--- the flaw of block i, by the check of it
-abbrev pub flaw_at : Check → Region → ℕ → Option Flaw
-flaw_at c r i = flaw_or c r i None
+-- number, region and block
+abbrev pub flaw_in : Unfit → Flaw
+flaw_in f = record { number = reason_number f.reason; region = region_of f.region; block = f.block }
+
+-- no flaw, or the one that is answered
+abbrev pub flaw_of : Result Unit Unfit → Option Flaw
+flaw_of r = option_map flaw_in (result_err r)

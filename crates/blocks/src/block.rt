@@ -1,15 +1,15 @@
-// A block of 512 bytes: its fields, and when it is damaged.
-ghost use Rattle.std.specs.Prelude.{◌≡◌, ◌+◌, ◌*◌, ◌<◌, ◌≤◌, true, ◌||◌, not, eqb, length, take, if◌then◌else◌};
-ghost use Rattle.std.specs.Prelude.{Some};
-ghost use Rattle.names.specs.Bytes.{Bytes, every};
+// A block of 512 bytes: its fields, when it is damaged, and what it holds.
+ghost use Rattle.std.specs.Prelude.{◌≡◌, ◌+◌, ◌<◌, ◌≤◌, [], true, ◌||◌, eqb, leb, length, take, drop, option_copied, if◌then◌else◌, MatchOption};
+ghost use Rattle.std.specs.Option.{option_map};
+ghost use Rattle.std.specs.Result.{result_ok};
+ghost use Rattle.names.specs.Bytes.{every};
 ghost use Rattle.names.specs.Name.{longest};
 ghost use Rattle.blocks.specs.Layout.{block_size, content_at, sum_at};
-ghost use Rattle.blocks.specs.Block.{is_zero, content_length, name_length, weighted, sum_right, lengths_right, unused_zero, kind_suits, record_right, shape_right, sound};
-ghost use Rattle.blocks.specs.Entry.{packed_record, peeled_in};
-ghost use Rattle.blocks.specs.Means.{id_width, stored_sum, region_of, block_at, block_count, name_within, content_within, Within, as_entry, taken_entry, name_in, content_in, entry_in, taken_in};
+ghost use Rattle.blocks.specs.Block.{is_zero, block_kind, block_name, block_content, content_length, name_length, lengths_right, weighted, sum_right, unused_zero, kind_suits, record_right, shape_right, sound};
+ghost use Rattle.blocks.specs.Entry.{name_of, entry, entry_of};
+ghost use Rattle.blocks.specs.Means.{id_width, kind_number, a_kind, entry_as, stored_sum, region_of, block_at, block_count, name_within, content_within, Within, NeverSound, taken_entry, name_in, content_in, entry_in, taken_in};
 
 use crate::parse::{ID_WIDTH, all_hex};
-use names::bytes::in_range;
 use names::name::LONGEST;
 use names::validate::well_formed;
 
@@ -34,41 +34,128 @@ pub const LONGEST_CONTENT: usize = 250;
 
 pub const SUM_AT: usize = 508;
 
-// The kinds.
-pub const LOOSE: u8 = 1;
-
-pub const UNREAD: u8 = 2;
-
-pub const WALK_ERROR: u8 = 3;
-
-pub const RECORD: u8 = 4;
-
-pub const PACKED_ERROR: u8 = 5;
-
 // A region is worktree, common or packed.
-#[derive(Clone, Copy)]
+#[derive(Clone, Copy, Debug, PartialEq, Eq)]
 pub enum Region {
     Worktree,
     Common,
     Packed,
 }
 
-fn size(x: u8) -> usize
-    ensures { (result ≡ x) × (result ≤ 255) }
-{
-    x as usize
+// What the byte in front says that a block holds.
+#[derive(Clone, Copy, Debug, PartialEq, Eq)]
+pub enum Kind {
+    Loose,
+    // a loose file that could not be read
+    Unread,
+    WalkError,
+    Record,
+    PackedError,
 }
 
-fn wide(x: u8) -> u32
-    ensures { (result ≡ x) × (result ≤ 255) }
-{
-    x as u32
+// A byte that stands for no kind.
+#[derive(Clone, Copy, Debug, PartialEq, Eq)]
+pub struct UnknownKind(pub u8);
+
+impl TryFrom<u8> for Kind {
+    type Error = UnknownKind;
+
+    ghost try_from_gives = { λ b r. option_map kind_number (result_ok r) ≡ a_kind b };
+
+    fn try_from(b: u8) -> Result<Kind, UnknownKind> {
+        match b {
+            1 => Ok(Kind::Loose),
+            2 => Ok(Kind::Unread),
+            3 => Ok(Kind::WalkError),
+            4 => Ok(Kind::Record),
+            5 => Ok(Kind::PackedError),
+            _ => Err(UnknownKind(b)),
+        }
+    }
 }
 
-fn full(x: u16) -> u32
-    ensures { result ≡ x }
+// Whether a kind suits the region.
+#[tactic(auto, unfolding(crate::specs::Block::kind_suits))]
+fn kind_suits(region: Region, kind: Kind) -> bool
+    ensures { result ≡ kind_suits (region_of region) (kind_number kind) }
 {
-    x as u32
+    match region {
+        Region::Worktree | Region::Common => {
+            matches!(kind, Kind::Loose | Kind::Unread | Kind::WalkError)
+        }
+        Region::Packed => matches!(kind, Kind::Record | Kind::PackedError),
+    }
+}
+
+// What a block holds. The texts are parts of the block, and the ids stand as they do there.
+#[derive(Clone, Copy, Debug, PartialEq, Eq)]
+pub enum Entry<'a> {
+    Damaged,
+    // a walk error or a packed error
+    Failed,
+    Loose {
+        name: &'a [u8],
+        content: &'a [u8],
+    },
+    Unread {
+        name: &'a [u8],
+    },
+    Record {
+        name: &'a [u8],
+        target: &'a [u8],
+        peeled: Option<&'a [u8]>,
+    },
+}
+
+impl<'a> Entry<'a> {
+    // What a block of that kind holds, with this name and content.
+    #[tactic(auto, unfolding(crate::specs::Entry::entry_of))]
+    fn new(kind: Kind, name: &'a [u8], content: &'a [u8]) -> Entry<'a>
+        ensures { entry_as result ≡ entry_of id_width (kind_number kind) name.now content.now }
+    {
+        match kind {
+            Kind::Loose => Entry::Loose { name, content },
+            Kind::Unread => Entry::Unread { name },
+            Kind::Record => Entry::record(name, content),
+            Kind::WalkError | Kind::PackedError => Entry::Failed,
+        }
+    }
+
+    // A record: one id, or two.
+    #[tactic(auto, using(crate::proofs::Parts::one_id, crate::proofs::Parts::two_ids))]
+    fn record(name: &'a [u8], content: &'a [u8]) -> Entry<'a>
+        ensures { entry_as result ≡ entry_of id_width 4 name.now content.now }
+    {
+        if content.len() <= ID_WIDTH {
+            return Entry::Record {
+                name,
+                target: content,
+                peeled: None,
+            };
+        }
+        let (target, peeled) = content.split_at(ID_WIDTH);
+        Entry::Record {
+            name,
+            target,
+            peeled: Some(peeled),
+        }
+    }
+
+    // The name of a loose file or a record.
+    pub fn name(self) -> Option<&'a [u8]>
+        ensures { option_copied result ≡ name_of (entry_as self.entry) }
+    {
+        match self {
+            Entry::Damaged | Entry::Failed => None,
+            Entry::Loose { name, content: _ }
+            | Entry::Unread { name }
+            | Entry::Record {
+                name,
+                target: _,
+                peeled: _,
+            } => Some(name),
+        }
+    }
 }
 
 // The weighted sum of a part of a block whose first byte has the position k. A weight is below 512, so the remainder changes nothing:
@@ -78,40 +165,11 @@ fn part_sum(s: &[u8], k: u16) -> u32
     ensures { (result ≡ weighted k s.now) × (result ≤ 33000000) }
 {
     let mut sum: u32 = 0;
-    let mut i: usize = 0;
-    while i < s.len() {
-        let w = (k + (i as u16) + 1) % BLOCK_SIZE as u16;
-        sum += full(w) * wide(s[i]);
-        i += 1;
+    for (i, &x) in s.iter().enumerate() {
+        let w = (k + i as u16 + 1) % BLOCK_SIZE as u16;
+        sum += u32::from(w) * u32::from(x);
     }
     sum
-}
-
-// The weighted sum of a block. Bytes that are 0 add nothing to it, so only the header's first four, the name and the content are read.
-fn block_sum(b: &[u8]) -> u32
-    requires { Within b.now × (unused_zero b.now ≡ true) }
-    ensures { result ≡ weighted 0 (take sum_at b.now) }
-{
-    part_sum(&b[0..ZERO_AT], 0)
-        + part_sum(name_part(b), NAME_AT as u16)
-        + part_sum(content_part(b), CONTENT_AT as u16)
-}
-
-// The sum that a block holds, low byte first.
-fn stored_sum(b: &[u8]) -> u32
-    requires { length b.now ≡ block_size }
-    ensures { result ≡ stored_sum b.now }
-{
-    wide(b[SUM_AT])
-        + wide(b[SUM_AT + 1]) * 256
-        + (wide(b[SUM_AT + 2]) + wide(b[SUM_AT + 3]) * 256) * 65536
-}
-
-fn sum_right(b: &[u8]) -> bool
-    requires { Within b.now × (unused_zero b.now ≡ true) }
-    ensures { result ≡ sum_right b.now }
-{
-    stored_sum(b) == block_sum(b)
 }
 
 // Whether every byte is 0. All are looked at, so that the loop has one way out and many are compared at once.
@@ -119,252 +177,247 @@ fn all_zero(s: &[u8]) -> bool
     ensures { result ≡ every is_zero s.now }
 {
     let mut zero = true;
-    let mut i: usize = 0;
-    while i < s.len() {
-        zero = zero & (s[i] == 0);
-        i += 1;
+    for &b in s {
+        zero = zero & (b == 0);
     }
     zero
-}
-
-fn name_len(b: &[u8]) -> usize
-    requires { length b.now ≡ block_size }
-    ensures { (result ≡ name_length b.now) × (result ≤ 255) }
-{
-    size(b[NAME_LENGTH_AT])
-}
-
-fn content_len(b: &[u8]) -> usize
-    requires { length b.now ≡ block_size }
-    ensures { (result ≡ content_length b.now) × (result ≤ 65535) }
-{
-    size(b[CONTENT_LENGTH_AT]) + size(b[CONTENT_LENGTH_AT + 1]) * 256
-}
-
-fn lengths_right(b: &[u8]) -> bool
-    requires { length b.now ≡ block_size }
-    ensures { result ≡ lengths_right b.now }
-{
-    if name_len(b) <= LONGEST {
-        content_len(b) <= LONGEST_CONTENT
-    } else {
-        false
-    }
-}
-
-// Whether the bytes that neither the header nor name, content or sum takes are 0.
-fn unused_zero(b: &[u8]) -> bool
-    requires { Within b.now }
-    ensures { result ≡ unused_zero b.now }
-{
-    if !all_zero(&b[ZERO_AT..NAME_AT]) {
-        return false;
-    }
-    let n = NAME_AT + name_len(b);
-    if !all_zero(&b[n..CONTENT_AT]) {
-        return false;
-    }
-    let c = CONTENT_AT + content_len(b);
-    all_zero(&b[c..SUM_AT])
-}
-
-fn kind_suits(region: Region, kind: u8) -> bool
-    ensures { result ≡ kind_suits (region_of region) kind }
-{
-    match region {
-        Region::Worktree => in_range(kind, LOOSE, WALK_ERROR),
-        Region::Common => in_range(kind, LOOSE, WALK_ERROR),
-        Region::Packed => in_range(kind, RECORD, PACKED_ERROR),
-    }
-}
-
-// The name of a block, as a part of it: the empty part where its length is over the longest.
-pub(crate) fn name_part(b: &[u8]) -> &[u8]
-    requires { length b.now ≡ block_size }
-    ensures { result.now ≡ name_within b.now }
-{
-    let n = name_len(b);
-    if LONGEST < n {
-        return &b[0..0];
-    }
-    let e = NAME_AT + n;
-    &b[NAME_AT..e]
-}
-
-// Its content, in the same way.
-fn content_part(b: &[u8]) -> &[u8]
-    requires { length b.now ≡ block_size }
-    ensures { result.now ≡ content_within b.now }
-{
-    let n = content_len(b);
-    if LONGEST_CONTENT < n {
-        return &b[0..0];
-    }
-    let e = CONTENT_AT + n;
-    &b[CONTENT_AT..e]
 }
 
 // One id, or two.
 fn is_id_length(n: usize) -> bool
     ensures { result ≡ (eqb n id_width || eqb n (id_width + id_width)) }
 {
-    if n == ID_WIDTH {
-        true
-    } else {
-        n == ID_WIDTH + ID_WIDTH
-    }
+    n == ID_WIDTH || n == 2 * ID_WIDTH
 }
 
-fn record_right(b: &[u8]) -> bool
-    requires { Within b.now }
-    ensures { result ≡ record_right id_width b.now }
-{
-    if !is_id_length(content_len(b)) {
-        return false;
-    }
-    if !all_hex(content_part(b)) {
-        return false;
-    }
-    well_formed(name_part(b))
-}
-
-// What each kind asks of name and content.
-fn shape_right(b: &[u8]) -> bool
-    requires { Within b.now }
-    ensures { result ≡ shape_right id_width b.now }
-{
-    let kind = b[KIND_AT];
-    match kind {
-        UNREAD => content_len(b) == 0,
-        WALK_ERROR | PACKED_ERROR => name_len(b) + content_len(b) == 0,
-        RECORD => record_right(b),
-        _ => true,
-    }
-}
-
-// Whether a block of a region is damaged. The tests that cost little come first.
-pub(crate) fn is_damaged(b: &[u8], region: Region) -> bool
-    requires { length b.now ≡ block_size }
-    ensures { result ≡ not (sound id_width (region_of region) b.now) }
-{
-    if !lengths_right(b) {
-        return true;
-    }
-    if !kind_suits(region, b[KIND_AT]) {
-        return true;
-    }
-    if !shape_right(b) {
-        return true;
-    }
-    if !unused_zero(b) {
-        return true;
-    }
-    !sum_right(b)
-}
-
-// Block k of a region.
-pub(crate) fn block_at(s: &[u8], k: usize) -> &[u8]
-    requires { k < block_count s.now }
-    ensures { (result.now ≡ block_at s.now k) × (length result.now ≡ block_size) }
-{
-    let a = k * BLOCK_SIZE;
-    let e = a + BLOCK_SIZE;
-    &s[a..e]
-}
-
-// What a block holds. Name and content stand beside it, as parts of the region.
+// The bytes of a block.
 #[derive(Clone, Copy)]
-pub enum EntryKind {
-    // past the region's last block
-    End,
-    Damaged,
-    // a walk error or a packed error
-    Failed,
-    Loose,
-    Unread,
-    Record,
-    PeeledRecord,
+pub(crate) struct Block<'a> {
+    bytes: &'a [u8],
+    ghost whole: { length bytes.now ≡ block_size },
 }
 
-// What a block holds, taken for sound.
-fn kind_in(b: &[u8]) -> EntryKind
-    requires { length b.now ≡ block_size }
-    ensures { as_entry id_width result (name_within b.now) (content_within b.now) ≡ Some (taken_entry id_width b.now) }
-{
-    let kind = b[KIND_AT];
-    match kind {
-        LOOSE => EntryKind::Loose,
-        UNREAD => EntryKind::Unread,
-        RECORD => record_kind(content_part(b)),
-        _ => EntryKind::Failed,
+impl<'a> Block<'a> {
+    // Block k of a region.
+    pub(crate) fn at(s: &'a [u8], k: usize) -> Block<'a>
+        requires { k < block_count s.now }
+        ensures { result.bytes.now ≡ block_at s.now k }
+    {
+        let a = k * BLOCK_SIZE;
+        Block {
+            bytes: &s[a..a + BLOCK_SIZE],
+        }
+    }
+
+    // The same, and none past the last.
+    fn get(s: &'a [u8], k: usize) -> Option<Block<'a>>
+        ensures { MatchOption result (block_count s.now ≤ k) (λ b. (k < block_count s.now) × (b.bytes.now ≡ block_at s.now k)) }
+    {
+        if k < s.len() / BLOCK_SIZE {
+            Some(Block::at(s, k))
+        } else {
+            None
+        }
+    }
+
+    #[tactic(auto, unfolding(crate::specs::Block::name_length))]
+    fn name_len(self) -> usize
+        ensures { (result ≡ name_length self.entry.bytes.now) × (result ≤ 255) }
+    {
+        usize::from(self.bytes[NAME_LENGTH_AT])
+    }
+
+    #[tactic(auto, unfolding(crate::specs::Block::content_length))]
+    fn content_len(self) -> usize
+        ensures { (result ≡ content_length self.entry.bytes.now) × (result ≤ 65535) }
+    {
+        usize::from(u16::from_le_bytes([
+            self.bytes[CONTENT_LENGTH_AT],
+            self.bytes[CONTENT_LENGTH_AT + 1],
+        ]))
+    }
+
+    #[tactic(auto, unfolding(crate::specs::Block::lengths_right))]
+    fn lengths_right(self) -> bool
+        ensures { result ≡ lengths_right self.entry.bytes.now }
+    {
+        self.name_len() <= LONGEST && self.content_len() <= LONGEST_CONTENT
+    }
+
+    // The sum that a block holds, low byte first.
+    fn stored_sum(self) -> u32
+        ensures { result ≡ stored_sum self.entry.bytes.now }
+    {
+        u32::from_le_bytes([
+            self.bytes[SUM_AT],
+            self.bytes[SUM_AT + 1],
+            self.bytes[SUM_AT + 2],
+            self.bytes[SUM_AT + 3],
+        ])
+    }
+
+    // n bytes from a position on, and none where that is more than the most.
+    fn part(self, at: usize, n: usize, most: usize) -> &'a [u8]
+        requires { at + most ≤ block_size }
+        ensures { result.now ≡ (if leb n most then take n (drop at self.entry.bytes.now) else []) }
+    {
+        if most < n {
+            return &[];
+        }
+        &self.bytes[at..at + n]
+    }
+
+    // The name, empty where its length is over the longest.
+    #[tactic(auto, unfolding(crate::specs::Block::block_name))]
+    fn name(self) -> &'a [u8]
+        ensures { result.now ≡ name_within self.entry.bytes.now }
+    {
+        self.part(NAME_AT, self.name_len(), LONGEST)
+    }
+
+    // The content, in the same way.
+    #[tactic(auto, unfolding(crate::specs::Block::block_content))]
+    fn content(self) -> &'a [u8]
+        ensures { result.now ≡ content_within self.entry.bytes.now }
+    {
+        self.part(CONTENT_AT, self.content_len(), LONGEST_CONTENT)
+    }
+
+    // The parts of a block, where its byte in front is a kind and its lengths are right: it is damaged where not.
+    fn parts(self) -> Option<Parts<'a>>
+        ensures { MatchOption result (NeverSound self.entry.bytes.now) (λ p. p.block.bytes.now ≡ self.entry.bytes.now) }
+    {
+        let Ok(kind) = Kind::try_from(self.bytes[KIND_AT]) else {
+            return None;
+        };
+        if !self.lengths_right() {
+            return None;
+        }
+        Some(Parts {
+            block: self,
+            kind,
+            name: self.name(),
+            content: self.content(),
+        })
+    }
+
+    // What a block of a region holds.
+    pub(crate) fn entry(self, region: Region) -> Entry<'a>
+        ensures { entry_as result ≡ entry id_width (region_of region) self.entry.bytes.now }
+    {
+        match self.parts() {
+            Some(p) if p.is_sound(region) => Entry::new(p.kind, p.name, p.content),
+            _ => Entry::Damaged,
+        }
+    }
+
+    // What a block holds, taken for sound.
+    #[tactic(auto, using(crate::proofs::Clauses::kind_at, crate::proofs::Clauses::taken_no_kind), unfolding(crate::specs::Block::block_kind))]
+    fn taken_entry(self) -> Entry<'a>
+        ensures { entry_as result ≡ taken_entry id_width self.entry.bytes.now }
+    {
+        match Kind::try_from(self.bytes[KIND_AT]) {
+            Ok(kind) => Entry::new(kind, self.name(), self.content()),
+            Err(_) => Entry::Failed,
+        }
     }
 }
 
-// A record, with a peeled id or without.
-fn record_kind(content: &[u8]) -> EntryKind
-    ensures { (n : Bytes) → as_entry id_width result n content.now ≡ Some (packed_record n (take id_width content.now) (peeled_in id_width content.now)) }
-{
-    if content.len() <= ID_WIDTH {
-        EntryKind::Record
-    } else {
-        EntryKind::PeeledRecord
+// A block whose byte in front is a kind and whose lengths are right, with its name and content.
+#[derive(Clone, Copy)]
+struct Parts<'a> {
+    block: Block<'a>,
+    kind: Kind,
+    name: &'a [u8],
+    content: &'a [u8],
+    ghost within: { Within block.bytes.now },
+    ghost kind_is: { kind_number kind ≡ block_kind block.bytes.now },
+    ghost name_is: { name.now ≡ block_name block.bytes.now },
+    ghost content_is: { content.now ≡ block_content block.bytes.now },
+    ghost name_long: { length name.now ≡ name_length block.bytes.now },
+    ghost content_long: { length content.now ≡ content_length block.bytes.now },
+}
+
+impl<'a> Parts<'a> {
+    // Whether the bytes that neither the header nor name, content or sum takes are 0.
+    #[tactic(auto, unfolding(crate::specs::Block::unused_zero))]
+    fn unused_zero(&self) -> bool
+        ensures { result ≡ unused_zero self.now.block.bytes.now }
+    {
+        let b = self.block.bytes;
+        all_zero(&b[ZERO_AT..NAME_AT])
+            && all_zero(&b[NAME_AT + self.name.len()..CONTENT_AT])
+            && all_zero(&b[CONTENT_AT + self.content.len()..SUM_AT])
+    }
+
+    // The weighted sum. Bytes that are 0 add nothing to it, so only the header's first four, the name and the content are read.
+    #[tactic(auto, using(crate::proofs::Sums::used_sum))]
+    fn sum(&self) -> u32
+        requires { unused_zero self.now.block.bytes.now ≡ true }
+        ensures { result ≡ weighted 0 (take sum_at self.now.block.bytes.now) }
+    {
+        part_sum(&self.block.bytes[..ZERO_AT], 0)
+            + part_sum(self.name, NAME_AT as u16)
+            + part_sum(self.content, CONTENT_AT as u16)
+    }
+
+    #[tactic(auto, using(crate::proofs::Clauses::record_parts))]
+    fn record_right(&self) -> bool
+        ensures { result ≡ record_right id_width self.now.block.bytes.now }
+    {
+        is_id_length(self.content.len()) && all_hex(self.content) && well_formed(self.name)
+    }
+
+    // What each kind asks of name and content.
+    #[tactic(auto, unfolding(crate::specs::Block::shape_right))]
+    fn shape_right(&self) -> bool
+        ensures { result ≡ shape_right id_width self.now.block.bytes.now }
+    {
+        match self.kind {
+            Kind::Loose => true,
+            Kind::Unread => self.content.is_empty(),
+            Kind::WalkError | Kind::PackedError => self.name.is_empty() && self.content.is_empty(),
+            Kind::Record => self.record_right(),
+        }
+    }
+
+    // Whether the block is sound in a region. The tests that cost little come first.
+    #[tactic(auto, using(crate::proofs::Clauses::sound_parts), unfolding(crate::specs::Block::sum_right))]
+    fn is_sound(&self, region: Region) -> bool
+        ensures { result ≡ sound id_width (region_of region) self.now.block.bytes.now }
+    {
+        kind_suits(region, self.kind)
+            && self.shape_right()
+            && self.unused_zero()
+            && self.block.stored_sum() == self.sum()
     }
 }
 
-// The name of block k of a region, as a part of the region.
+// The name of block k of a region, as a part of the region, and nothing past the last block.
 pub fn block_name(s: &[u8], k: usize) -> &[u8]
     ensures { result.now ≡ name_in s.now k }
 {
-    if k < s.len() / BLOCK_SIZE {
-        name_part(block_at(s, k))
-    } else {
-        &s[0..0]
-    }
+    Block::get(s, k).map_or(&[], |b| b.name())
 }
 
-// The content of block k of a region, as a part of the region.
+// The content of block k of a region, in the same way.
 pub fn block_content(s: &[u8], k: usize) -> &[u8]
     ensures { result.now ≡ content_in s.now k }
 {
-    if k < s.len() / BLOCK_SIZE {
-        content_part(block_at(s, k))
-    } else {
-        &s[0..0]
-    }
+    Block::get(s, k).map_or(&[], |b| b.content())
 }
 
-// The content of block k of whichever of two loose regions won.
-pub fn content_of<'a>(worktree: &'a [u8], common: &'a [u8], in_common: bool, k: usize) -> &'a [u8]
-    ensures { result.now ≡ content_in (if in_common then common.now else worktree.now) k }
+// What block k of a region holds, taken for sound: a region fit for search has no other blocks. None past the last block.
+pub fn sound_entry_at(s: &[u8], k: usize) -> Option<Entry<'_>>
+    ensures { option_map entry_as result ≡ taken_in id_width s.now k }
 {
-    if in_common {
-        block_content(common, k)
-    } else {
-        block_content(worktree, k)
-    }
+    Some(Block::get(s, k)?.taken_entry())
 }
 
-// What block k of a region holds, taken for sound: a region fit for search has no other blocks.
-pub fn sound_kind(s: &[u8], k: usize) -> EntryKind
-    ensures { as_entry id_width result (name_in s.now k) (content_in s.now k) ≡ taken_in id_width s.now k }
+// What block k of a region holds, and none past the last block.
+#[tactic(auto, using(crate::proofs::Entries::entry_there, crate::proofs::Entries::entry_past))]
+pub fn entry_at(s: &[u8], region: Region, k: usize) -> Option<Entry<'_>>
+    ensures { option_map entry_as result ≡ entry_in id_width (region_of region) s.now k }
 {
-    if k < s.len() / BLOCK_SIZE {
-        kind_in(block_at(s, k))
-    } else {
-        EntryKind::End
-    }
-}
-
-// What block k of a region holds.
-pub fn entry_kind(s: &[u8], region: Region, k: usize) -> EntryKind
-    ensures { as_entry id_width result (name_in s.now k) (content_in s.now k) ≡ entry_in id_width (region_of region) s.now k }
-{
-    if s.len() / BLOCK_SIZE <= k {
-        return EntryKind::End;
-    }
-    let b = block_at(s, k);
-    if is_damaged(b, region) {
-        return EntryKind::Damaged;
-    }
-    kind_in(b)
+    Some(Block::get(s, k)?.entry(region))
 }

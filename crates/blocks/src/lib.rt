@@ -5,3 +5,4 @@ pub mod block;
 pub mod decode;
 pub mod fitness;
 pub mod parse;
+pub mod snapshot;

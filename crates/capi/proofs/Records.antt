@@ -1,19 +1,21 @@
 -- Records, field by field.
-use Rattle.std.specs.Prelude.{if◌then◌else◌}
-use mathlib.Core.Path.{◌≡◌}
+use Rattle.std.specs.Prelude.{Option, None, Some, is_some, MatchOption, IsSomeAnd}
+use Rattle.std.specs.Option.{option_map}
+use Rattle.std.specs.Int.{from_bool}
+use mathlib.Core.Path.{◌≡◌, refl, ap}
 use Prim.Native.Nat.{ℕ, ◌+◌, ◌*◌}
 use native.Mathlib.Omega.{arith}
-use mathlib.Core.Bool.{Bool, true, false, not}
-use mathlib.Core.List.{[], ◌++◌}
+use mathlib.Core.List.{◌++◌}
 use lib.ListN.{length, length-append}
+use denote.Bor.{Bor}
 use Rattle.names.specs.Bytes.{Bytes}
 use Rattle.names.specs.Name.{longest}
-use Rattle.blocks.specs.Means.{id_width}
-use Rattle.refs.specs.declared.raw.Kind.{Kind}
-use Rattle.refs.specs.declared.raw.Kind.TheVariants.{Object, Symbolic}
+use Rattle.blocks.specs.Means.{id_width, id_in}
+use Rattle.blocks.specs.declared.parse.Id.{Id}
+use Rattle.capi.specs.declared.report.Shown.{Shown}
 use Rattle.capi.specs.Report.{Report}
-use Rattle.capi.specs.Layout.{word_size, word, bit, padded, reference_at, reference_bytes, reference_field, report_bytes}
-use Rattle.capi.specs.Promises.{Wrote, Reported, is_object, kind_code, reference_with}
+use Rattle.capi.specs.Layout.{word_size, word, padded, kind_number, object_id, target_name, peeled_id, peeled_bit, reference_at, reference_bytes, reference_field, report_bytes}
+use Rattle.capi.specs.Promises.{Wrote, Reported, shown}
 use Rattle.capi.proofs.Fields.{low_first_length, padded_length, wrote_both}
 
 -- three numbers at the front
@@ -22,7 +24,7 @@ wrote_place i j k p q r =
     wrote_both (wrote_both p q (simp low_first_length (omega arith))) r (simp (length-append, low_first_length) (omega arith))
 
 -- four numbers behind them
-pub wrote_lengths : (i j k l : ℕ) {b m n o a : Bytes} → Wrote b reference_at (word i) m → Wrote m (reference_at + word_size) (word j) n
+wrote_lengths : (i j k l : ℕ) {b m n o a : Bytes} → Wrote b reference_at (word i) m → Wrote m (reference_at + word_size) (word j) n
     → Wrote n (reference_at + 2 * word_size) (word k) o → Wrote o (reference_at + 3 * word_size) (word l) a → Wrote b reference_at (word i ++ word j ++ word k ++ word l) a
 wrote_lengths i j k l p q r s =
     let two = wrote_both p q (simp low_first_length (omega arith)) in
@@ -47,19 +49,33 @@ wrote_texts i j k l x y n t p q r s u =
     let three = wrote_both two s (simp (length-append, low_first_length, padded_length) (omega arith)) in
     wrote_both three u (simp (length-append, low_first_length, padded_length) (omega arith))
 
+-- whether there is a peeled id
+peeled_there : (p : Option Id) → from_bool (is_some p) ≡ peeled_bit (option_map (λ i. i.digits) p)
+peeled_there None = refl
+peeled_there (Some i) = refl
+
+-- the ids of some digits
+pub ids_of : (p : Option (Bor Bytes)) (q : Option Id) → MatchOption p (q ≡ None) (λ d. IsSomeAnd q (λ i. i.digits ≡ id_in id_width d.now))
+    → option_map (λ i. i.digits) q ≡ option_map (λ d. id_in id_width d.now) p
+ids_of None q h = rw h refl
+ids_of (Some d) None h = absurd h
+ids_of (Some d) (Some i) h = ap Some h
+
 -- a reference, by its parts
-pub wrote_reference : (name : Bytes) (k : Kind) (id target : Bytes) (has : Bool) (peeled : Bytes) {b m d e f a : Bytes}
-    → Wrote b reference_at (word (kind_code k) ++ word (bit has) ++ word (length name) ++ word (length (if not (is_object k) then target else []))) m
-    → Wrote m ids_at (padded id_width (if is_object k then id else [])) d
-    → Wrote d (ids_at + id_width) (padded id_width (if has then peeled else [])) e
-    → Wrote e names_at (padded longest name) f
-    → Wrote f (names_at + longest) (padded longest (if not (is_object k) then target else [])) a
-    → Wrote b reference_at (reference_bytes (reference_with name k id target has peeled)) a
+pub wrote_reference : (r : Shown) {b m n o p d e f a : Bytes}
+    → Wrote b reference_at (word (kind_number (shown r).target)) m → Wrote m (reference_at + word_size) (word (from_bool (is_some r.peeled))) n
+    → Wrote n (reference_at + 2 * word_size) (word (length r.name.now)) o → Wrote o (reference_at + 3 * word_size) (word (length (target_name (shown r).target))) p
+    → Wrote p ids_at (padded id_width (object_id (shown r).target)) d
+    → Wrote d (ids_at + id_width) (padded id_width (peeled_id (shown r).peeled)) e
+    → Wrote e names_at (padded longest r.name.now) f
+    → Wrote f (names_at + longest) (padded longest (target_name (shown r).target)) a
+    → Wrote b reference_at (reference_bytes (shown r)) a
 unfolding reference_bytes
-wrote_reference name Object id target true peeled p q r s u = wrote_texts 1 1 (length name) 0 id peeled name [] p q r s u
-wrote_reference name Object id target false peeled p q r s u = wrote_texts 1 0 (length name) 0 id [] name [] p q r s u
-wrote_reference name Symbolic id target true peeled p q r s u = wrote_texts 2 1 (length name) (length target) [] peeled name target p q r s u
-wrote_reference name Symbolic id target false peeled p q r s u = wrote_texts 2 0 (length name) (length target) [] [] name target p q r s u
+wrote_reference r s t u v w x y z =
+    let q = shown r in
+    let numbers = wrote_lengths (kind_number q.target) (peeled_bit q.peeled) (length q.name) (length (target_name q.target)) s (rw (← peeled_there r.peeled) t) u v in
+    wrote_texts (kind_number q.target) (peeled_bit q.peeled) (length q.name) (length (target_name q.target))
+    (object_id q.target) (peeled_id q.peeled) q.name (target_name q.target) numbers w x y z
 
 -- a report: its numbers, then the reference or zeros
 pub reported : (r : Report) (number : ℕ) {b m a : Bytes} → number ≡ r.number → Wrote b 0 (word number ++ word r.region ++ word r.block) m

@@ -1,29 +1,25 @@
 -- A listing's state as bytes, and what openings and steps give.
-use mathlib.Core.Path.{◌≡◌, refl, ap, sym, ◌∙◌}
+use mathlib.Core.Path.{◌≡◌, refl, ap, ◌∙◌}
 use Prim.Native.Nat.{ℕ, zero, suc, ◌+◌, ◌-◌, ◌*◌, ◌≤◌, ◌<◌}
 use native.Mathlib.Omega.{arith}
-use mathlib.Core.Bool.{Bool, true, false, not, false≢true}
+use mathlib.Core.Bool.{Bool, true, false}
+use mathlib.Core.Logic.{◌⊎◌, inl, inr}
 use mathlib.Core.List.{[], ◌∷◌, ◌++◌}
-use Rattle.std.specs.Prelude.{None, Some}
-use lib.Dec.{leb, eqb}
+use Rattle.std.specs.Int.{from_bool}
+use lib.Dec.{leb}
 use lib.ListN.{length, take, drop, replicate, length-append, length-take}
 use borrow.Author.Tests.{le-leb, lt-leb}
 use Rattle.names.specs.Bytes.{Bytes}
 use Rattle.names.specs.Name.{longest}
-use Rattle.names.specs.Check.{Check, Checked, checked}
-use Rattle.names.specs.Means.{held}
-use Rattle.names.proofs.Parts.{held_is}
-use Rattle.blocks.specs.Snapshot.{Snapshot, is_there}
-use Rattle.blocks.specs.Means.{id_width}
+use Rattle.names.specs.Check.{Checked, gives, refuses}
 use Rattle.refs.specs.Listing.{Positions}
-use Rattle.refs.specs.Run.{State, Step, step}
+use Rattle.refs.specs.Run.{State, Step}
 use Rattle.output.specs.Pasted.{pasted}
 use Rattle.output.proofs.Pastes.{pasted_apart}
-use Rattle.capi.specs.Report.{check_number, answer_report, too_short}
+use Rattle.capi.specs.Report.{answer_report, too_short}
 use Rattle.capi.specs.Layout.{word_size, word, bit, padded, field, report_size, report_bytes, expansion_at, state_size, number_bytes, state_bytes, state_from}
-use Rattle.capi.specs.declared.listing.Made.{Made}
 use Rattle.capi.specs.Output.{opening_number, opening_state, OpenGiven, step_number, step_state, step_output, StepGiven}
-use Rattle.capi.specs.Promises.{Wrote, Reported, StepMade, next_state}
+use Rattle.capi.specs.Promises.{Wrote, Reported}
 use Rattle.capi.proofs.Fields.{low_first_length, padded_length, padded_whole, wrote_both, in_front}
 use Rattle.capi.proofs.Calls.{report_length}
 
@@ -46,19 +42,11 @@ pub wrote_state : (s : State) {b m a : Bytes} → Wrote b 0 (number_bytes s.at s
 unfolding state_bytes
 wrote_state s g h = wrote_both g h (omega (arith, numbers_length s.at s.ended (length s.expansion)))
 
+pub bit_is : (b : Bool) → from_bool b ≡ bit b
+bit_is true = refl
+bit_is false = refl
+
 module _ (b : Bytes) where
-  pub read_positions : (w c p : ℕ) → w ≡ field 0 b → c ≡ field 1 b → p ≡ field 2 b → record { worktree = w; common = c; packed = p } ≡ (state_from b).at
-  unfolding state_from
-  read_positions w c p g h i = rw (g, h, i) refl
-
-  pub read_ended : (e : ℕ) → e ≡ field 3 b → not (eqb e 0) ≡ (state_from b).ended
-  unfolding state_from
-  read_ended e h = rw h refl
-
-  pub read_expansion : (l : ℕ) (n : Bytes) → l ≡ field 4 b → n ≡ held (take longest (drop expansion_at b)) l → n ≡ (state_from b).expansion
-  unfolding state_from
-  read_expansion l n h k = rw (k, h) (held_is (take longest (drop expansion_at b)) (field 4 b))
-
   pub expansion_short : length (state_from b).expansion ≤ longest
   unfolding state_from
   expansion_short = simp length-take (omega arith)
@@ -100,59 +88,51 @@ pub open_too_short : (c : Checked State) (state : Bytes) → length state < stat
 unfolding opening_number opening_state
 open_too_short c state h = let e : leb state_size (length state) ≡ false = lt-leb state_size (length state) h in record { number = rw e refl; left = rw e refl }
 
--- an opening by its check: refused
-pub open_refused : (c : Checked State) (k : Check) (st : State) (state : Bytes) (n : ℕ) → state_size ≤ length state → checked k st ≡ c
-    → not (is_there k) ≡ false → n ≡ check_number k → OpenGiven c state state n
+-- one that is refused
+pub open_refused : (c : Checked State) (k n : ℕ) (state : Bytes) → state_size ≤ length state → refuses k ≡ c → n ≡ k → OpenGiven c state state n
 unfolding opening_number opening_state
-open_refused c None st state n h e t m = absurd (false≢true (sym t))
-open_refused c (Some k) st state n h e t m =
+open_refused c k n state h e m =
     let room : leb state_size (length state) ≡ true = le-leb state_size (length state) h in
     record { number = rw (room, ← e) m; left = rw (room, ← e) refl }
 
--- and opened
-pub open_gives : (c : Checked State) (k : Check) (st : State) {state after : Bytes} → state_size ≤ length state → checked k st ≡ c → not (is_there k) ≡ true
-    → Wrote state 0 (state_bytes st) after → OpenGiven c state after 0
+-- and one that gives a state
+pub open_gives : (c : Checked State) (st : State) {state after : Bytes} → state_size ≤ length state → gives st ≡ c → Wrote state 0 (state_bytes st) after → OpenGiven c state after 0
 unfolding opening_number opening_state
-open_gives c None st {state} {after} h e t p =
+open_gives c st {state} {after} h e p =
     let room : leb state_size (length state) ≡ true = le-leb state_size (length state) h in
     record { number = rw (room, ← e) refl; left = rw (room, ← e) (in_front (state_bytes st) (state_length st) h p) }
-open_gives c (Some k) st h e t p = absurd (false≢true t)
 
 -- ---- steps
 
--- a state that is too short, and an output
-pub step_state_short : (d : Step) (state out : Bytes) → length state < state_size → StepGiven d state out state out too_short
+-- a state that is too short, or an output
+step_state_short : (d : Step) (state out : Bytes) → length state < state_size → StepGiven d state out state out too_short
 unfolding step_number step_state step_output
 step_state_short d state out h =
     let e : leb state_size (length state) ≡ false = lt-leb state_size (length state) h in
     record { number = rw e refl; next = rw e refl; output = rw e refl }
 
-pub step_output_short : (d : Step) (state out : Bytes) → state_size ≤ length state → length out < report_size → StepGiven d state out state out too_short
+step_output_short : (d : Step) (state out : Bytes) → state_size ≤ length state → length out < report_size → StepGiven d state out state out too_short
 unfolding step_number step_state step_output
 step_output_short d state out h k =
     let a : leb state_size (length state) ≡ true = le-leb state_size (length state) h in
     let b : leb report_size (length out) ≡ false = lt-leb report_size (length out) k in
     record { number = rw (a, b) refl; next = rw (a, b) refl; output = rw (a, b) refl }
 
--- a step from the fields of a state
-pub step_made : (s : Snapshot) (b e : Bytes) (at : Positions) (ended : Bool) (d : Step) (m : Made) {out after : Bytes}
-    → d ≡ step id_width s (record { at = at; ended = ended; expansion = e }) → at ≡ (state_from b).at → ended ≡ (state_from b).ended → e ≡ (state_from b).expansion
-    → Reported out (answer_report d.answer) after m.number → next_state e m ≡ d.next → StepMade (step id_width s (state_from b)) (state_from b).expansion out after m
-step_made s b e at ended d m {out} {after} h i j k r n =
-    let whole : d ≡ step id_width s (state_from b) = h ∙ rw (i, j, k) refl in
-    rw (← whole, ← k) (record { report = r; next = n })
+pub step_short : (d : Step) (state out : Bytes) → (length state < state_size) ⊎ ((state_size ≤ length state) × (length out < report_size)) → StepGiven d state out state out too_short
+step_short d state out (inl h) = step_state_short d state out h
+step_short d state out (inr h) = step_output_short d state out h.0 h.1
 
--- a step that has room
-pub step_given : (d : Step) {m : Made} {state out state-after out-after : Bytes} → state_size ≤ length state → report_size ≤ length out
-    → StepMade d (state_from state).expansion out out-after m → Wrote state 0 (state_bytes (next_state (state_from state).expansion m)) state-after
-    → StepGiven d state out state-after out-after m.number
+-- a step that has room: its report, and the next state with the expansion as before
+pub step_given : (d : Step) {at : Positions} {ended : Bool} {x : Bytes} {n : ℕ} {state out state-after out-after : Bytes} → state_size ≤ length state → report_size ≤ length out
+    → x ≡ (state_from state).expansion → record { at = at; ended = ended; expansion = x } ≡ d.next → Reported out (answer_report d.answer) out-after n
+    → Wrote state 0 (state_bytes (record { at = at; ended = ended; expansion = (state_from state).expansion })) state-after
+    → StepGiven d state out state-after out-after n
 unfolding step_number step_state step_output
-step_given d {m} {state} {out} {state-after} {out-after} h k s p =
+step_given d {at} {ended} {x} {n} {state} {out} {state-after} {out-after} h k q e r p =
     let a : leb state_size (length state) ≡ true = le-leb state_size (length state) h in
     let b : leb report_size (length out) ≡ true = le-leb report_size (length out) k in
-    let r = s.report in
     record {
       number = rw (a, b) r.number;
-      next = rw (a, b) (in_front (state_bytes d.next) (state_length d.next) h (rw s.next at p));
+      next = rw (a, b) (in_front (state_bytes d.next) (state_length d.next) h (rw (rw q at e) at p));
       output = rw (a, b) (in_front (report_bytes (answer_report d.answer)) (report_length (answer_report d.answer)) k r.bytes);
     }

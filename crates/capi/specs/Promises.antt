@@ -1,19 +1,27 @@
 -- What private functions promise.
-use Rattle.std.specs.Prelude.{◌≡◌, ℕ, [], Bool, true, false, if◌then◌else◌}
-use Rattle.std.specs.Prelude.{Option, None, Some}
+use Rattle.std.specs.Prelude.{◌≡◌, ℕ}
+use Rattle.std.specs.Prelude.{Option, None, Some, Ok, Err}
+use Rattle.std.specs.Prelude as std
+use Rattle.std.specs.Option.{option_map}
 use Rattle.names.specs.Bytes.{Bytes}
-use Rattle.blocks.specs.Fitness.{Flaw}
+use Rattle.blocks.specs.Content.{Target, object, symbolic}
+use Rattle.blocks.specs.Means.{flaw_in}
 use Rattle.refs.specs.Answer.{Reference}
-use Rattle.refs.specs.Search.{after_checks}
-use Rattle.refs.specs.Run.{State, Step}
-use Rattle.refs.specs.Means.{target_of, gated, positions_of}
-use Rattle.refs.specs.declared.raw.Kind.{Kind}
-use Rattle.refs.specs.declared.raw.Kind.TheVariants.{Object, Symbolic}
-use Rattle.refs.specs.declared.check.Gate.{Gate}
+use Rattle.refs.specs.Run.{State}
+use Rattle.refs.specs.Reasons.{reason_number}
+use Rattle.refs.specs.Means.{turned_back, state_at}
+use Rattle.refs.specs.declared.check.CallError.{CallError}
+use Rattle.refs.specs.declared.find.FindError.{FindError}
+use Rattle.refs.specs.declared.find.FindError.TheVariants.{Call, Entry}
 use Rattle.output.specs.Pasted.{pasted}
-use Rattle.capi.specs.declared.listing.Made.{Made}
-use Rattle.capi.specs.Report.{Report, result_report, passed_report, answer_report}
-use Rattle.capi.specs.Layout.{kind_number, report_bytes}
+use Rattle.capi.specs.declared.report.Aim.{Aim}
+use Rattle.capi.specs.declared.report.Aim.TheVariants.{Object, Symbolic}
+use Rattle.capi.specs.declared.report.Shown.{Shown}
+use Rattle.capi.specs.declared.report.Report as code
+use Rattle.capi.specs.declared.report.Report.TheVariants as reported
+use Rattle.capi.specs.declared.listing.State as listing
+use Rattle.capi.specs.Report.{Report, report, unfit_report, result_report, passed_report}
+use Rattle.capi.specs.Layout.{report_bytes}
 
 -- s was written over a buffer from a position on
 pub record Wrote (before : Bytes) (at : ℕ) (s after : Bytes) : Type 0 where
@@ -24,36 +32,39 @@ pub record Reported (before : Bytes) (r : Report) (after : Bytes) (n : ℕ) : Ty
   pub bytes : Wrote before 0 (report_bytes r) after
   pub number : n ≡ r.number
 
+-- ---- what is reported
+
+-- a target: its id, or its lent name
+abbrev pub aim_of : Aim → Target
+aim_of (Object id) = object id.digits
+aim_of (Symbolic name) = symbolic name.now
+
+-- a reference
+abbrev pub shown : Shown → Reference
+shown r = record { name = r.name.now; target = aim_of r.target; peeled = option_map (λ i. i.digits) r.peeled }
+
+-- a number, by itself or with a reference; or 6 to 8 with region and block
+abbrev pub report_of : code.Report → Report
+report_of (reported.Number k) = report k None
+report_of (reported.Reference k r) = report k (Some (shown r))
+report_of (reported.Unfit flaw) = unfit_report (flaw_in flaw)
+
 -- the report of a check that turned a call away
-abbrev pub turned_report : Gate → Report
-turned_report g = result_report passed_report (gated g tt)
+abbrev pub turned_report : CallError → Report
+turned_report e = result_report passed_report (turned_back e)
 
--- the report of fitness in regions of right sizes
-abbrev pub flaw_report : Option Flaw → Report
-flaw_report f = result_report passed_report (after_checks None f tt)
+-- the same, or of an entry that is refused
+abbrev pub refused_report : FindError → Report
+refused_report (Call e) = turned_report e
+refused_report (Entry why) = report (reason_number why) None
 
--- ---- by a reference's kind
+-- the report of a call that answers no more than that its checks passed
+abbrev pub passed_or : std.Result Unit CallError → Report
+passed_or (Ok u) = passed_report u
+passed_or (Err e) = turned_report e
 
--- whether its target is an object
-abbrev pub is_object : Kind → Bool
-is_object Object = true
-is_object Symbolic = false
+-- ---- a listing's state
 
--- its number, that of a target of this kind
-abbrev pub kind_code : Kind → ℕ
-kind_code k = kind_number (target_of k [] [])
-
--- the reference of a name, the kind of its target with an id and a name beside it, and a peeled id if it has one
-abbrev pub reference_with : Bytes → Kind → Bytes → Bytes → Bool → Bytes → Reference
-reference_with name k id target has_peeled peeled = record { name = name; target = target_of k id target; peeled = if has_peeled then Some peeled else None }
-
--- ---- a step
-
--- the state that the struct gives, with the expansion e
-abbrev pub next_state : Bytes → Made → State
-next_state e m = record { at = positions_of m.next; ended = m.ended; expansion = e }
-
--- the step d of a state with the expansion e: its report was written, and number and next state are those of the struct
-pub record StepMade (d : Step) (e before after : Bytes) (m : Made) : Type 0 where
-  pub report : Reported before (answer_report d.answer) after m.number
-  pub next : next_state e m ≡ d.next
+-- what the struct holds
+abbrev pub state_of : listing.State → State
+state_of s = state_at s.expansion.now s.cursor

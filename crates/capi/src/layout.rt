@@ -8,39 +8,21 @@ use output::{clear, put};
 
 pub const WORD_SIZE: usize = 8;
 
+#[tactic(auto, using(crate::proofs::Words::word_written))]
 pub(crate) fn put_word(out: &mut [u8], at: usize, n: u64)
     ensures { Wrote out.old at (word n) out.new }
 {
-    let mut b = [0u8; WORD_SIZE];
-    let mut x = n;
-    let mut i: usize = 0;
-    while i < WORD_SIZE {
-        b[i] = (x % 256) as u8;
-        x = x / 256;
-        i += 1;
-    }
-    put(out, at, &b);
+    put(out, at, &n.to_le_bytes());
 }
 
-fn wide(x: u8) -> u64
-    ensures { (result ≡ x) × (result ≤ 255) }
-{
-    x as u64
-}
-
-// The number of four bytes.
-fn half_word_at(s: &[u8], at: usize) -> u64
-    requires { at + 4 ≤ length s.now }
-    ensures { (result ≡ from_low_first (take 4 (drop at s.now))) × (result ≤ 4294967295) }
-{
-    wide(s[at]) + wide(s[at + 1]) * 256 + (wide(s[at + 2]) + wide(s[at + 3]) * 256) * 65536
-}
-
+#[tactic(auto, using(crate::proofs::Words::word_read))]
 pub(crate) fn word_at(s: &[u8], at: usize) -> u64
     requires { at + word_size ≤ length s.now }
     ensures { result ≡ from_low_first (take word_size (drop at s.now)) }
 {
-    half_word_at(s, at) + half_word_at(s, at + 4) * 4294967296
+    let mut bytes = [0u8; WORD_SIZE];
+    bytes.copy_from_slice(&s[at..at + WORD_SIZE]);
+    u64::from_le_bytes(bytes)
 }
 
 // A text in a field of so many bytes, zeros behind it; what is longer is cut.

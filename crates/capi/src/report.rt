@@ -1,23 +1,26 @@
 // Reports: the number, a block's place and a reference, at fixed places of an output.
-ghost use Rattle.std.specs.Prelude.{None, Some};
-ghost use Rattle.std.specs.Prelude.{◌≡◌, [], ◌++◌, replicate, if◌then◌else◌};
-ghost use Rattle.blocks.specs.Means.{region_of, reason_number};
-ghost use Rattle.refs.specs.Means.{answered, trail_of};
-ghost use Rattle.capi.specs.Report.{report, region_number, unfit_report, answer_report, followed_report};
-ghost use Rattle.capi.specs.Layout.{word, bit, reference_at, reference_size, reference_bytes};
-ghost use Rattle.capi.specs.Promises.{Wrote, Reported, turned_report, is_object, kind_code, reference_with};
+ghost use Rattle.std.specs.Prelude.{◌≡◌, ◌++◌, replicate};
+ghost use Rattle.blocks.specs.Means.{region_of};
+ghost use Rattle.refs.specs.Answer.{strip_reference};
+ghost use Rattle.refs.specs.Means.{found_of, parts_of, reference_of};
+ghost use Rattle.capi.specs.Report.{region_number, answer_report, result_report};
+ghost use Rattle.capi.specs.Layout.{word, kind_number, object_id, target_name, peeled_id, reference_at, reference_size, reference_bytes};
+ghost use Rattle.capi.specs.Promises.{Wrote, Reported, aim_of, shown, report_of, turned_report, refused_report, passed_or};
 
 use crate::layout::{WORD_SIZE, put_padded, put_word};
 use blocks::block::Region;
-use blocks::fitness;
-use blocks::parse::ID_WIDTH;
-use names::name::{LONGEST, lend, refusal_number};
+use blocks::decode::{Target, TargetRef};
+use blocks::fitness::Unfit;
+use blocks::parse::{ID_WIDTH, Id, id_of};
+use names::bytes::without;
+use names::name::LONGEST;
 use output::clear;
-use refs::check::Gate;
-use refs::raw::{Answered, Kind, Outcome, Reference, reason_number};
-use refs::raw_ext::{Ending, Trail, stop_number};
+use refs::check::CallError;
+use refs::find::FindError;
+use refs::raw::{Parts, Reference};
 
 // "Not there" and "ended", and an output that is too short: document 01 has no numbers for them.
+// Kept: the C interface answers by numbers.
 pub const NOTHING: u32 = 100;
 
 pub const TOO_SHORT: u32 = 101;
@@ -49,12 +52,7 @@ pub const REPORT_SIZE: usize = TARGET_AT + LONGEST;
 
 const REFERENCE_SIZE: usize = REPORT_SIZE - KIND_AT;
 
-pub(crate) fn bit(b: bool) -> u64
-    ensures { result ≡ bit b }
-{
-    if b { 1 } else { 0 }
-}
-
+// Kept: the C interface has regions by number.
 fn region_number(region: Region) -> u64
     ensures { result ≡ region_number (region_of region) }
 {
@@ -65,71 +63,171 @@ fn region_number(region: Region) -> u64
     }
 }
 
-fn is_object(kind: Kind) -> bool
-    ensures { result ≡ is_object kind }
-{
-    match kind {
-        Kind::Object => true,
-        Kind::Symbolic => false,
-    }
+// The target of a reference that is reported: the id of an object, or another reference's name.
+#[derive(Clone, Copy)]
+pub(crate) enum Aim<'a> {
+    Object(Id),
+    Symbolic(&'a [u8]),
 }
 
-// Its callers' reference is a field of a struct, and an enum cannot be read at that depth.
-pub(crate) fn kind_of(r: Reference) -> Kind
-    ensures { result ≡ r.kind }
-{
-    r.kind
-}
-
-// 1 for an object, 2 for a symbolic reference; 0 is no reference.
-fn kind_number(kind: Kind) -> u64
-    ensures { result ≡ kind_code kind }
-{
-    match kind {
-        Kind::Object => 1,
-        Kind::Symbolic => 2,
-    }
-}
-
-// A text that is there, else none.
-fn if_there(there: bool, s: &[u8]) -> &[u8]
-    ensures { result.now ≡ (if there then s.now else []) }
-{
-    if there {
-        return s;
-    }
-    &s[0..0]
-}
-
-// The numbers in front of a reference's ids and names.
-fn put_lengths(out: &mut [u8], kind: Kind, has_peeled: bool, name: usize, target: usize)
-    ensures { Wrote out.old reference_at (word (kind_code kind) ++ word (bit has_peeled) ++ word name ++ word target) out.new }
-{
-    put_word(out, KIND_AT, kind_number(kind));
-    put_word(out, HAS_PEELED_AT, bit(has_peeled));
-    put_word(out, NAME_LENGTH_AT, name as u64);
-    put_word(out, TARGET_LENGTH_AT, target as u64);
-}
-
-// A reference by its parts, the texts lent: a struct by value would be copied.
-fn put_reference<'a>(
-    out: &mut [u8],
+// A reference that is reported. Its names are lent from where they lie: a struct that holds them would be copied.
+#[derive(Clone, Copy)]
+pub(crate) struct Shown<'a> {
     name: &'a [u8],
-    kind: Kind,
-    id: &'a [u8],
-    target: &'a [u8],
-    has_peeled: bool,
-    peeled: &'a [u8],
-)
-    ensures { Wrote out.old reference_at (reference_bytes (reference_with name.now kind id.now target.now has_peeled peeled.now)) out.new }
+    target: Aim<'a>,
+    peeled: Option<Id>,
+}
+
+impl<'a> From<&'a Reference> for Shown<'a> {
+    ghost from_gives = { λ r q. shown q ≡ reference_of r.now };
+
+    fn from(r: &'a Reference) -> Shown<'a> {
+        Shown {
+            name: r.name.as_bytes(),
+            target: match &r.target {
+                Target::Object(id) => Aim::Object(*id),
+                Target::Symbolic(name) => Aim::Symbolic(name.as_bytes()),
+            },
+            peeled: r.peeled,
+        }
+    }
+}
+
+impl<'a> Shown<'a> {
+    // The reference of a block, without the namespace's expansion e in front of its names.
+    pub(crate) fn without(p: Parts<'a>, e: &[u8]) -> Shown<'a>
+        ensures { shown result ≡ strip_reference e.now (parts_of p.entry) }
+    {
+        Shown {
+            name: without(p.name, e),
+            target: match p.target {
+                TargetRef::Object(id) => Aim::Object(id_of(id)),
+                TargetRef::Symbolic(name) => Aim::Symbolic(without(name, e)),
+            },
+            peeled: p.peeled.map(id_of),
+        }
+    }
+
+    // 1 for an object, 2 for a symbolic target; 0 is no reference.
+    // Kept: the C interface has kinds by number.
+    fn kind(&self) -> u64
+        ensures { result ≡ kind_number (shown self.now).target }
+    {
+        match self.target {
+            Aim::Object(_) => 1,
+            Aim::Symbolic(_) => 2,
+        }
+    }
+
+    // The id of an object, else none.
+    fn id(&self) -> &[u8]
+        ensures { result.now ≡ object_id (shown self.now).target }
+    {
+        match &self.target {
+            Aim::Object(id) => &id.digits,
+            Aim::Symbolic(_) => &[],
+        }
+    }
+
+    // The name of a symbolic target, else none.
+    fn target_name(&self) -> &'a [u8]
+        ensures { result.now ≡ target_name (shown self.now).target }
+    {
+        match self.target {
+            Aim::Object(_) => &[],
+            Aim::Symbolic(name) => name,
+        }
+    }
+
+    // The peeled id, if there is one.
+    fn peeled_id(&self) -> &[u8]
+        ensures { result.now ≡ peeled_id (shown self.now).peeled }
+    {
+        match &self.peeled {
+            Some(id) => &id.digits,
+            None => &[],
+        }
+    }
+
+    fn put(&self, out: &mut [u8])
+        ensures { Wrote out.old reference_at (reference_bytes (shown self.now)) out.new }
+    {
+        let target = self.target_name();
+        put_word(out, KIND_AT, self.kind());
+        put_word(out, HAS_PEELED_AT, u64::from(self.peeled.is_some()));
+        put_word(out, NAME_LENGTH_AT, self.name.len() as u64);
+        put_word(out, TARGET_LENGTH_AT, target.len() as u64);
+        put_padded(out, ID_AT, ID_WIDTH, self.id());
+        put_padded(out, PEELED_AT, ID_WIDTH, self.peeled_id());
+        put_padded(out, NAME_AT, LONGEST, self.name);
+        put_padded(out, TARGET_AT, LONGEST, target);
+    }
+}
+
+// What a call reports: a number, by itself or with a reference; or the first block that is unfit for search, 6 to 8.
+#[derive(Clone, Copy)]
+pub(crate) enum Report<'a> {
+    Number(u32),
+    Reference(u32, Shown<'a>),
+    Unfit(Unfit),
+}
+
+// The check that turned a call away.
+impl<'a> From<CallError> for Report<'a> {
+    ghost from_gives = { λ e r. report_of r ≡ turned_report e };
+
+    fn from(e: CallError) -> Report<'a> {
+        match e {
+            CallError::Sizes(why) => Report::Number(why.into()),
+            CallError::Names(why) => Report::Number(why.into()),
+            CallError::Unfit(flaw) => Report::Unfit(flaw),
+        }
+    }
+}
+
+// A call that answers no more than that its checks passed.
+impl<'a> From<Result<(), CallError>> for Report<'a> {
+    ghost from_gives = { λ passed r. report_of r ≡ passed_or passed };
+
+    fn from(passed: Result<(), CallError>) -> Report<'a> {
+        match passed {
+            Ok(()) => Report::Number(0),
+            Err(e) => e.into(),
+        }
+    }
+}
+
+impl<'a> From<FindError> for Report<'a> {
+    ghost from_gives = { λ e r. report_of r ≡ refused_report e };
+
+    fn from(e: FindError) -> Report<'a> {
+        match e {
+            FindError::Call(e) => e.into(),
+            FindError::Entry(why) => Report::Number(why.into()),
+        }
+    }
+}
+
+// What a search found.
+impl<'a> From<&'a Result<Option<Reference>, FindError>> for Report<'a> {
+    ghost from_gives = { λ found r. report_of r ≡ result_report answer_report (found_of found.now) };
+
+    fn from(found: &'a Result<Option<Reference>, FindError>) -> Report<'a> {
+        match found {
+            Ok(Some(r)) => Report::Reference(0, r.into()),
+            Ok(None) => Report::Number(NOTHING),
+            Err(e) => (*e).into(),
+        }
+    }
+}
+
+// The numbers in front of the reference.
+fn put_place(out: &mut [u8], number: u32, region: u64, block: usize)
+    ensures { Wrote out.old 0 (word number ++ word region ++ word block) out.new }
 {
-    let object = is_object(kind);
-    let shown = if_there(!object, target);
-    put_lengths(out, kind, has_peeled, name.len(), shown.len());
-    put_padded(out, ID_AT, ID_WIDTH, if_there(object, id));
-    put_padded(out, PEELED_AT, ID_WIDTH, if_there(has_peeled, peeled));
-    put_padded(out, NAME_AT, LONGEST, name);
-    put_padded(out, TARGET_AT, LONGEST, shown);
+    put_word(out, NUMBER_AT, u64::from(number));
+    put_word(out, REGION_AT, region);
+    put_word(out, BLOCK_AT, block as u64);
 }
 
 fn put_no_reference(out: &mut [u8])
@@ -138,116 +236,28 @@ fn put_no_reference(out: &mut [u8])
     clear(out, KIND_AT, REFERENCE_SIZE);
 }
 
-// The numbers in front of the reference.
-fn put_place(out: &mut [u8], number: u32, region: u64, block: usize)
-    ensures { Wrote out.old 0 (word number ++ word region ++ word block) out.new }
-{
-    put_word(out, NUMBER_AT, number as u64);
-    put_word(out, REGION_AT, region);
-    put_word(out, BLOCK_AT, block as u64);
-}
-
-// A number alone.
-pub(crate) fn put_number(out: &mut [u8], number: u32) -> u32
-    ensures { Reported out.old (report number None) out.new result }
-{
-    put_place(out, number, 0, 0);
-    put_no_reference(out);
-    number
-}
-
-// A number with a reference.
-pub(crate) fn put_numbered<'a>(
-    out: &mut [u8],
-    number: u32,
-    name: &'a [u8],
-    kind: Kind,
-    id: &'a [u8],
-    target: &'a [u8],
-    has_peeled: bool,
-    peeled: &'a [u8],
-) -> u32
-    ensures { Reported out.old (report number (Some (reference_with name.now kind id.now target.now has_peeled peeled.now))) out.new result }
-{
-    put_place(out, number, 0, 0);
-    put_reference(out, name, kind, id, target, has_peeled, peeled);
-    number
-}
-
-// 6 to 8, with region and block.
-pub(crate) fn put_unfit(
-    out: &mut [u8],
-    reason: fitness::Reason,
-    region: Region,
-    block: usize,
-) -> u32
-    ensures { Reported out.old (unfit_report (record { number = reason_number reason; region = region_of region; block = block })) out.new result }
-{
-    let number = fitness::reason_number(reason);
-    put_place(out, number, region_number(region), block);
-    put_no_reference(out);
-    number
-}
-
-// An answer of search.
-pub(crate) fn put_answer(out: &mut [u8], a: Answered) -> u32
-    ensures { Reported out.old (answer_report (answered a)) out.new result }
-{
-    let outcome = a.outcome;
-    let name = lend(&a.reference.name.bytes, a.reference.name.len);
-    let kind = kind_of(a.reference);
-    let id = &a.reference.id.digits;
-    let target = lend(&a.reference.target.bytes, a.reference.target.len);
-    let has_peeled = a.reference.has_peeled;
-    let peeled = &a.reference.peeled.digits;
-    match outcome {
-        Outcome::Nothing => put_number(out, NOTHING),
-        Outcome::Found => put_numbered(out, 0, name, kind, id, target, has_peeled, peeled),
-        Outcome::Refused(why) => put_number(out, reason_number(why)),
-    }
-}
-
-// An answer of following.
-pub(crate) fn put_trail(out: &mut [u8], t: Trail) -> u32
-    ensures { Reported out.old (followed_report (trail_of t)) out.new result }
-{
-    let ending = t.ending;
-    let name = lend(&t.reference.name.bytes, t.reference.name.len);
-    let kind = kind_of(t.reference);
-    let id = &t.reference.id.digits;
-    let target = lend(&t.reference.target.bytes, t.reference.target.len);
-    let has_peeled = t.reference.has_peeled;
-    let peeled = &t.reference.peeled.digits;
-    match ending {
-        Ending::NotThere => put_number(out, NOTHING),
-        Ending::Reached => put_numbered(out, 0, name, kind, id, target, has_peeled, peeled),
-        Ending::Stopped(why) => put_numbered(
-            out,
-            stop_number(why),
-            name,
-            kind,
-            id,
-            target,
-            has_peeled,
-            peeled,
-        ),
-        Ending::Refused(why) => put_number(out, reason_number(why)),
-    }
-}
-
-// The check that turned a call away.
-pub(crate) fn put_turned(out: &mut [u8], gate: Gate) -> u32
-    ensures { Reported out.old (turned_report gate) out.new result }
-{
-    match gate {
-        Gate::Passed => put_number(out, 0),
-        Gate::NotWhole => put_number(out, 1),
-        Gate::TooMany => put_number(out, 2),
-        Gate::Refused(why) => put_number(out, refusal_number(why)),
-        Gate::Unfit {
-            reason,
-            region,
-            block,
-        } => put_unfit(out, reason, region, block),
+impl<'a> Report<'a> {
+    // Writes it at the front of an output, and answers its number.
+    pub(crate) fn put(&self, out: &mut [u8]) -> u32
+        ensures { Reported out.old (report_of self.now) out.new result }
+    {
+        match self {
+            Report::Number(number) => {
+                put_place(out, *number, 0, 0);
+                put_no_reference(out);
+                *number
+            }
+            Report::Reference(number, reference) => {
+                put_place(out, *number, 0, 0);
+                reference.put(out);
+                *number
+            }
+            Report::Unfit(flaw) => {
+                let number = u32::from(flaw.reason);
+                put_place(out, number, region_number(flaw.region), flaw.block);
+                put_no_reference(out);
+                number
+            }
+        }
     }
 }

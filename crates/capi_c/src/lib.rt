@@ -1,11 +1,11 @@
 // The archive for C and Rust: each export calls the function of capi that has its name, under the same clause.
 #![tactic(auto)]
 
-ghost use Rattle.std.specs.Prelude.{◌≡◌};
+ghost use Rattle.std.specs.Prelude.{◌≡◌, option_copied};
 ghost use Rattle.std.specs.Prelude.{None, Some};
 ghost use Rattle.names.specs.Namespace.{names_check, expanded};
 ghost use Rattle.names.specs.Means.{full_checked};
-ghost use Rattle.blocks.specs.Means.{id_width, if_there, snapshot_of};
+ghost use Rattle.blocks.specs.Means.{id_width, if_there, snapshot_from, snapshot_of};
 ghost use Rattle.refs.specs.Search.{find};
 ghost use Rattle.refs.specs.Follow.{follow};
 ghost use Rattle.refs.specs.Run.{open_listing, step};
@@ -13,7 +13,30 @@ ghost use Rattle.capi.specs.Report.{check_number, checked_number, result_report,
 ghost use Rattle.capi.specs.Layout.{state_from};
 ghost use Rattle.capi.specs.Output.{Given, OpenGiven, StepGiven};
 
+use blocks::snapshot::Snapshot;
 use capi::{listing, search, validate};
+
+// Bytes that may be absent.
+fn given(there: bool, s: &[u8]) -> Option<&[u8]>
+    ensures { option_copied result ≡ if_there there s.now }
+{
+    there.then_some(s)
+}
+
+fn snapshot<'a>(
+    worktree: &'a [u8],
+    common: &'a [u8],
+    has_common: bool,
+    packed: &'a [u8],
+) -> Snapshot<'a>
+    ensures { snapshot_of result ≡ snapshot_from worktree.now (if_there has_common common.now) packed.now }
+{
+    Snapshot {
+        worktree,
+        common: given(has_common, common),
+        packed,
+    }
+}
 
 // A partial name: 3 over 250 bytes, 4 if malformed.
 #[unsafe(no_mangle)]
@@ -40,6 +63,7 @@ pub extern "C" fn cosvint_namespace(namespace: &[u8]) -> u32
 }
 
 // Fitness for search: 0, or 1, 2 and 6 to 8.
+// Kept: the C interface needs a flag beside what may be absent.
 #[unsafe(no_mangle)]
 pub extern "C" fn cosvint_fitness<'a>(
     worktree: &'a [u8],
@@ -48,12 +72,13 @@ pub extern "C" fn cosvint_fitness<'a>(
     packed: &'a [u8],
     out: &mut [u8],
 ) -> u32
-    ensures { Given (fitness_report (snapshot_of worktree.now (if_there has_common common.now) packed.now)) out.old out.new result }
+    ensures { Given (fitness_report (snapshot_from worktree.now (if_there has_common common.now) packed.now)) out.old out.new result }
 {
-    search::cosvint_fitness(worktree, common, has_common, packed, out)
+    search::cosvint_fitness(snapshot(worktree, common, has_common, packed), out)
 }
 
 // Search: 0 where a reference is found, 100 where it is not there, else 1 to 12.
+// Kept: the C interface needs a flag beside what may be absent.
 #[unsafe(no_mangle)]
 pub extern "C" fn cosvint_find<'a>(
     worktree: &'a [u8],
@@ -65,21 +90,18 @@ pub extern "C" fn cosvint_find<'a>(
     has_namespace: bool,
     out: &mut [u8],
 ) -> u32
-    ensures { Given (result_report searched_report (find id_width (snapshot_of worktree.now (if_there has_common common.now) packed.now) name.now (if_there has_namespace namespace.now))) out.old out.new result }
+    ensures { Given (result_report searched_report (find id_width (snapshot_from worktree.now (if_there has_common common.now) packed.now) name.now (if_there has_namespace namespace.now))) out.old out.new result }
 {
     search::cosvint_find(
-        worktree,
-        common,
-        has_common,
-        packed,
+        snapshot(worktree, common, has_common, packed),
         name,
-        namespace,
-        has_namespace,
+        given(has_namespace, namespace),
         out,
     )
 }
 
 // Following: 0 where an id is reached, 100 where the name is not there, else 1 to 15.
+// Kept: the C interface needs a flag beside what may be absent.
 #[unsafe(no_mangle)]
 pub extern "C" fn cosvint_follow<'a>(
     worktree: &'a [u8],
@@ -91,21 +113,18 @@ pub extern "C" fn cosvint_follow<'a>(
     has_namespace: bool,
     out: &mut [u8],
 ) -> u32
-    ensures { Given (result_report followed_report (follow id_width (snapshot_of worktree.now (if_there has_common common.now) packed.now) name.now (if_there has_namespace namespace.now))) out.old out.new result }
+    ensures { Given (result_report followed_report (follow id_width (snapshot_from worktree.now (if_there has_common common.now) packed.now) name.now (if_there has_namespace namespace.now))) out.old out.new result }
 {
     search::cosvint_follow(
-        worktree,
-        common,
-        has_common,
-        packed,
+        snapshot(worktree, common, has_common, packed),
         name,
-        namespace,
-        has_namespace,
+        given(has_namespace, namespace),
         out,
     )
 }
 
 // A listing's opening: 0, or 1 to 5. Where it is refused the state is not written.
+// Kept: the C interface needs a flag beside what may be absent.
 #[unsafe(no_mangle)]
 pub extern "C" fn cosvint_list_open<'a>(
     worktree: &'a [u8],
@@ -116,20 +135,17 @@ pub extern "C" fn cosvint_list_open<'a>(
     has_namespace: bool,
     state: &mut [u8],
 ) -> u32
-    ensures { OpenGiven (open_listing (snapshot_of worktree.now (if_there has_common common.now) packed.now) (if_there has_namespace namespace.now)) state.old state.new result }
+    ensures { OpenGiven (open_listing (snapshot_from worktree.now (if_there has_common common.now) packed.now) (if_there has_namespace namespace.now)) state.old state.new result }
 {
     listing::cosvint_list_open(
-        worktree,
-        common,
-        has_common,
-        packed,
-        namespace,
-        has_namespace,
+        snapshot(worktree, common, has_common, packed),
+        given(has_namespace, namespace),
         state,
     )
 }
 
 // One step from the state, which becomes the next: 0 with a reference, 100 where the listing is ended, else 1, 2, or 6 to 12.
+// Kept: the C interface needs a flag beside what may be absent.
 #[unsafe(no_mangle)]
 pub extern "C" fn cosvint_list_step<'a>(
     worktree: &'a [u8],
@@ -139,7 +155,7 @@ pub extern "C" fn cosvint_list_step<'a>(
     state: &mut [u8],
     out: &mut [u8],
 ) -> u32
-    ensures { StepGiven (step id_width (snapshot_of worktree.now (if_there has_common common.now) packed.now) (state_from state.old)) state.old out.old state.new out.new result }
+    ensures { StepGiven (step id_width (snapshot_from worktree.now (if_there has_common common.now) packed.now) (state_from state.old)) state.old out.old state.new out.new result }
 {
-    listing::cosvint_list_step(worktree, common, has_common, packed, state, out)
+    listing::cosvint_list_step(snapshot(worktree, common, has_common, packed), state, out)
 }

@@ -2,21 +2,65 @@
 // though no more of it is read than the buffer holds.
 #![tactic(auto)]
 
-ghost use Rattle.std.specs.Prelude.{◌≡◌, ◌≤◌, length, take};
+ghost use Rattle.std.specs.Prelude.{◌≡◌, ◌≤◌, ◌↔◌, ◌||◌, length, take, IsErr, IfOk, IsTrue};
 ghost use Rattle.std.specs.Io.KnownBytes.{Consumes};
-ghost use Rattle.files.specs.Loaded.{is_missing, is_failed, size_of};
+ghost use Rattle.std.specs.Option.{option_copied, option_map};
+ghost use Rattle.names.specs.Means.{held};
+ghost use Rattle.files.specs.Loaded.{is_failed, size_of, size_if_there};
 
 use arrayvec::ArrayString;
+use blocks::snapshot::Snapshot;
+use names::name::lend;
 use std::fmt::Write as _;
 use std::io::{Read, Seek, SeekFrom};
 use std::rt::Files;
 use std::{fmt, fs, io};
 
-#[derive(Clone, Copy)]
-pub enum Loaded {
-    Missing,
-    Failed,
-    Size(usize),
+// A file is there and can't be read; why was told on standard error.
+#[derive(Debug, Clone, Copy, PartialEq, Eq)]
+pub struct Told;
+
+// The whole size of a file that was looked for, and none of one that is missing.
+pub type Loaded = Result<Option<usize>, Told>;
+
+// The whole sizes of a snapshot's files. A missing file is an absent common region, or an empty worktree or packed.
+#[derive(Debug, Clone, Copy)]
+pub struct FileSizes {
+    pub worktree: usize,
+    pub common: Option<usize>,
+    pub packed: usize,
+}
+
+// The sizes of the three, if each that is there can be read.
+pub fn sizes(worktree: Loaded, common: Loaded, packed: Loaded) -> Result<FileSizes, Told>
+    ensures err { IsErr result ↔ IsTrue (is_failed worktree || is_failed common || is_failed packed) }
+    ensures ok { IfOk result (λ s. (s.worktree ≡ size_of worktree) × (s.common ≡ size_if_there common) × (s.packed ≡ size_of packed)) }
+{
+    Ok(FileSizes {
+        worktree: worktree?.unwrap_or(0),
+        common: common?,
+        packed: packed?.unwrap_or(0),
+    })
+}
+
+impl FileSizes {
+    // The snapshot of files whose bytes stand at the start of these buffers, where no file is larger than its buffer.
+    pub fn snapshot<'a>(
+        self,
+        worktree: &'a [u8],
+        common: &'a [u8],
+        packed: &'a [u8],
+    ) -> Snapshot<'a>
+        ensures worktree { result.worktree.now ≡ held worktree.now self.worktree }
+        ensures common { option_copied result.common ≡ option_map (λ n. held common.now n) self.common }
+        ensures packed { result.packed.now ≡ held packed.now self.packed }
+    {
+        Snapshot {
+            worktree: lend(worktree, self.worktree),
+            common: self.common.map(|n| lend(common, n)),
+            packed: lend(packed, self.packed),
+        }
+    }
 }
 
 // Room for the longest text of an error, which has 256 bytes, and the number behind it.
@@ -39,19 +83,16 @@ impl fmt::Display for Reason<'_> {
 }
 
 // A line on standard error: what failed, as the caller names it, and why. Where that can't be written either, nobody is told.
-pub fn tell(rt: &impl Eprint, what: &str, why: &io::Error) {
+pub fn tell(rt: &impl Eprint, what: &str, why: &io::Error) -> Told {
     let _ = eprintln!(rt; "{what}: {}", Reason(why));
+    Told
 }
 
-// Says on standard error what is wrong with a file.
-fn complain(rt: &impl Eprint, path: &str, words: &str) -> Loaded {
-    let _ = eprintln!(rt; "{path}: {words}");
-    Loaded::Failed
-}
-
-fn failed(rt: &impl Eprint, path: &str, why: &io::Error) -> Loaded {
-    tell(rt, path, why);
-    Loaded::Failed
+// Writes a program's text, and tells on standard error why it can't.
+pub fn write_out(rt: &(impl Print + Eprint), text: &[u8]) {
+    if let Err(why) = rt.write_all(text) {
+        tell(rt, "standard output", &why);
+    }
 }
 
 // The size of an open file, or an error where it can't be told, as of a pipe. Leaves the file at its start.
@@ -70,6 +111,7 @@ fn try_read(file: &mut impl Read) -> io::Result<()> {
 
 // Reads until the buffer is full, the file ends or a read fails, and answers how many bytes it put at the buffer's start: those
 // that the file has next.
+// Kept: a loop over `read`, since std's `read_to_end` needs a Vec (no heap) and `read_exact` says nothing of a file that is shorter.
 fn read_full<F: Read>(file: &mut F, buf: &mut [u8]) -> usize
     ensures in_bounds { result ≤ length buf.new }
     ensures bytes { Consumes (F.remaining file.old) (F.remaining file.new) (take result buf.new) }
@@ -91,28 +133,15 @@ fn read_open(
     file: &mut (impl Read + Seek),
     path: &str,
     buf: &mut [u8],
-) -> Loaded {
-    let whole = match file_size(file) {
-        Ok(size) => size as usize,
-        Err(why) => return failed(rt, path, &why),
-    };
+) -> Result<usize, Told> {
+    try_read(file).map_err(|why| tell(rt, path, &why))?;
+    let whole = file_size(file).map_err(|why| tell(rt, path, &why))? as usize;
     let n = read_full(file, buf);
     if n < buf.len() && n < whole {
-        return complain(rt, path, "not read to its end");
+        let _ = eprintln!(rt; "{path}: not read to its end");
+        return Err(Told);
     }
-    Loaded::Size(whole)
-}
-
-fn read_checked(
-    rt: &impl Eprint,
-    file: &mut (impl Read + Seek),
-    path: &str,
-    buf: &mut [u8],
-) -> Loaded {
-    match try_read(file) {
-        Ok(()) => read_open(rt, file, path, buf),
-        Err(why) => failed(rt, path, &why),
-    }
+    Ok(whole)
 }
 
 // Reads the file of that name, and tells on standard error why one that is there can't be read. A name that is no UTF-8 text
@@ -123,42 +152,11 @@ pub fn load(rt: &(impl Files + Eprint), path: &[u8], buf: &mut [u8]) -> Loaded {
             "{}: not opened, since the name is no UTF-8 text",
             path.escape_ascii()
         );
-        return Loaded::Failed;
+        return Err(Told);
     };
     match fs::open(rt, path) {
-        Ok(mut file) => read_checked(rt, &mut file, path, buf),
-        Err(why) if why.kind() == io::ErrorKind::NotFound => Loaded::Missing,
-        Err(why) => failed(rt, path, &why),
-    }
-}
-
-pub fn is_missing(l: Loaded) -> bool
-    ensures { result ≡ is_missing l }
-{
-    match l {
-        Loaded::Missing => true,
-        Loaded::Failed => false,
-        Loaded::Size(_) => false,
-    }
-}
-
-pub fn is_failed(l: Loaded) -> bool
-    ensures { result ≡ is_failed l }
-{
-    match l {
-        Loaded::Missing => false,
-        Loaded::Failed => true,
-        Loaded::Size(_) => false,
-    }
-}
-
-// The whole size; 0 of a file that is missing.
-pub fn size(l: Loaded) -> usize
-    ensures { result ≡ size_of l }
-{
-    match l {
-        Loaded::Missing => 0,
-        Loaded::Failed => 0,
-        Loaded::Size(n) => n,
+        Ok(mut file) => Ok(Some(read_open(rt, &mut file, path, buf)?)),
+        Err(why) if why.kind() == io::ErrorKind::NotFound => Ok(None),
+        Err(why) => Err(tell(rt, path, &why)),
     }
 }

@@ -1,5 +1,5 @@
 -- The rules of a well-formed name, byte by byte: what the walk over a name asks for.
-use mathlib.Core.Path.{◌≡◌, refl, sym, subst, ◌∙◌}
+use mathlib.Core.Path.{◌≡◌, refl, sym, ap, subst, ◌∙◌}
 use Prim.Native.Nat.compare
 use Prim.Native.Nat.{ℕ, zero, suc, ◌+◌, ◌-◌, ◌≤◌, ◌<◌}
 use native.Mathlib.Nat.{not-suc-le-zero}
@@ -7,15 +7,17 @@ use native.Mathlib.Numerals.{add-one}
 use native.Mathlib.Omega.{arith}
 use mathlib.Core.List.{[], ◌∷◌}
 use mathlib.Core.Bool.{Bool, true, false, ◌&&◌, ◌||◌, not, and_assoc, and_comm, and-true, and-false}
-use lib.Dec.{eqb, leb}
+use lib.Dec.{eqb, leb, ltb}
+use Rattle.std.specs.List.{list_any}
 use lib.ListN.{length, take, drop, get_or, drop_of_length-le}
 use lib.Seq.{drop-cons}
-use borrow.Author.Tests.{eq-eqb, eqb-true, eqb-false, ne_eqb, leb-true, leb-false, le-ltb, not-true}
+use borrow.Author.Tests.{eqb-true, eqb-false, ne_eqb, leb-true, leb-false, le-ltb, lt-ltb, not-true}
 use Rattle.names.specs.Bytes.{Bytes, bytes, slash, order, same, starts_with, ends_with, contains, every}
 use Rattle.names.specs.WellFormed.{not_empty, no_dot_begins, no_lock_ends, allowed, slashes_right, well_formed}
 use Rattle.names.specs.Promises.{rules_after, fits_after, lock_ends, before, plain, parting, sure, all_sure}
 use Rattle.names.proofs.Tests.{and_left, and_right, false_of, in_range, not_both, or_eq}
 use Rattle.names.proofs.Parts.{tail_part}
+use Rattle.names.proofs.Prefix.{ended_not, ended_whole, ended_by}
 use Rattle.names.proofs.Orders.{eqb_comm, compare_refl, same_eq, same_nothing}
 
 -- ---- a conjunction of which each part is split in two
@@ -126,21 +128,22 @@ module _ (s : Bytes) where
   unfolding well_formed
   well_formed_is = rw behind_slash (simp and_assoc)
 
-pub nothing_formed : (s : Bytes) → length s ≡ 0 → false ≡ well_formed s
-nothing_formed s h = rw (well_formed_is s, same_nothing s, eq-eqb (length s) 0 h)
-
--- by the code's test of every byte
-module _ (s : Bytes) (r : Bool) (e : r ≡ rules_after slash (take (length s - 0) (drop 0 s))) where
-  all_fit : r ≡ rules_after slash s
-  all_fit = rw (tail_part s 0) at e
-
-  pub some_unfit : r ≡ false → false ≡ well_formed s
-  some_unfit h = rw (well_formed_is s, ← all_fit, h, and-false)
-
-  pub all_but_at : (length s ≡ 0 → ⊥) → r ≡ true → well_formed s ≡ not (same s (bytes "@"))
-  all_but_at n h = rw (well_formed_is s, same_nothing s, ne_eqb (length s) 0 n, ← all_fit, h)
+pub formed_is : (s : Bytes) → well_formed s ≡ (not (eqb (length s) 0) && rules_after slash s && not (same s (bytes "@")))
+formed_is s = rw (well_formed_is s, same_nothing s)
 
 -- ---- what a rule asks of a byte
+
+listed_is : (b : ℕ) (s : Bytes) → contains (b ∷ []) s ≡ list_any (λ y. eqb y b) s
+unfolding contains starts_with
+listed_is b [] = refl
+listed_is b (a ∷ s) = rw (and-true, eqb_comm b a, listed_is b s)
+
+pub allowed_is : (b : ℕ) → allowed b ≡ (leb 32 b && not (list_any (λ y. eqb y b) (127 ∷ 92 ∷ bytes " ~^:?*[")))
+allowed_is b = rw (← listed_is b (127 ∷ 92 ∷ bytes " ~^:?*["), not_or) (ap (λ (t : Bool). t && not (contains (b ∷ []) (127 ∷ 92 ∷ bytes " ~^:?*["))) (go (leb 32 b) refl))
+  where
+    go : (t : Bool) → leb 32 b ≡ t → not (ltb b 32) ≡ t
+    go true h = rw (le-ltb b 32 (leb-true 32 b h))
+    go false h = rw (lt-ltb b 32 (leb-false 32 b h))
 
 same_other : (a b : ℕ) (s q : Bytes) → (b ≡ a → ⊥) → same (b ∷ s) (a ∷ q) ≡ false
 same_other a b s q h = false_of (same (b ∷ s) (a ∷ q)) (λ e. let k = same_eq (b ∷ s) (a ∷ q) e in h (cc))
@@ -253,6 +256,18 @@ module _ (p : ℕ) (t : Bytes) (l : 0 < length t) where
   pub other_at : (get_or t 0 0 ≡ 46 → ⊥) → (get_or t 0 0 ≡ slash → ⊥) → (get_or t 0 0 ≡ 123 → ⊥) → fits_after p t ≡ allowed (get_or t 0 0)
   other_at d s b = subst (λ (u : Bytes). fits_after p u ≡ allowed (get_or t 0 0)) (sym (first_cons t (get_or t 0 0) l refl)) (other_is p (get_or t 0 0) (drop 1 t) d s b)
 
+  pub plain_first : plain (get_or t 0 0) ≡ true → fits_after p t ≡ true
+  plain_first h = plain_at (plain_fits (get_or t 0 0) h)
+
+-- a `.lock` that t begins with, and what stands behind it
+pub lock_is : (t : Bytes) → lock_ends t ≡ (starts_with (bytes ".lock") t && (eqb (length t) 5 || eqb (get_or t 5 0) slash))
+lock_is t = go (starts_with (bytes ".lock") t) refl (eqb (length t) 5) refl
+  where
+    go : (r : Bool) → r ≡ starts_with (bytes ".lock") t → (e : Bool) → eqb (length t) 5 ≡ e → lock_ends t ≡ (r && (e || eqb (get_or t 5 0) slash))
+    go true w true e = sym (ended_whole (bytes ".lock") t slash true w refl (eqb-true (length t) 5 e))
+    go true w false e = sym (ended_by (bytes ".lock") t slash true w refl (eqb-false (length t) 5 e))
+    go false w e h = sym (ended_not (bytes ".lock") t slash false w refl)
+
 -- ---- bytes that surely fit
 
 module _ (p n : ℕ) (s : Bytes) (k : parting p ≡ false) where
@@ -310,7 +325,3 @@ first_plain s l h = rules_at slash s 0 l ∙ rw (plain_at slash s l (plain_fits 
 
 pub before_next : (s : Bytes) (i : ℕ) → before s (i + 1) ≡ get_or s i 0
 before_next s i = rw (add-one i)
-
-pub before_later : (s : Bytes) (i : ℕ) → (i ≡ 0 → ⊥) → get_or s (i - 1) 0 ≡ before s i
-before_later s zero h = absurd (h refl)
-before_later s (suc i) h = let k : suc i - 1 ≡ i = omega arith in rw k

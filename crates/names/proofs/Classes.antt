@@ -1,68 +1,75 @@
 -- The first slash, and what a category takes off a name.
-use Rattle.std.specs.Prelude.{if◌then◌else◌}
-use mathlib.Core.Path.{◌≡◌, refl, ◌∙◌}
+use Rattle.std.specs.Prelude.{if◌then◌else◌, cond}
+use Rattle.std.specs.List.{position, position_from}
+use Rattle.std.proofs.lemmas.Iterator.Adapters.{position_from-zero}
+use mathlib.Core.Path.{◌≡◌, refl, sym, ◌∙◌}
 use Prim.Native.Nat.{ℕ, suc, ◌+◌, ◌≤◌, ◌<◌}
-use native.Mathlib.Numerals.{add-one}
 use native.Mathlib.Omega.{arith}
-use mathlib.Core.List.{List, [], ◌∷◌}
+use mathlib.Core.List.{[], ◌∷◌, ◌++◌}
 use mathlib.Core.Bool.{Bool, true, false}
 use Rattle.std.specs.Prelude.{Option, None, Some}
 use Rattle.std.specs.Option.{option_map}
 use lib.Dec.{eqb, lit≤}
-use lib.ListN.{length, drop, get_or, drop_of_length-le, length-drop}
-use lib.Seq.{drop-cons}
-use borrow.Author.Tests.{eq-eqb, ne_eqb}
-use Rattle.names.specs.Bytes.{Bytes, bytes, slash, starts_with, after}
+use lib.ListN.{length, drop, length-drop}
+use Rattle.names.specs.Bytes.{Bytes, bytes, slash, starts_with, every}
 use Rattle.names.specs.Name.{is_pseudo}
-use Rattle.names.specs.Category.{Category, Tag, LocalBranch, RemoteBranch, Note, Bisect, WorktreePrivate, Rewritten, PseudoRef, MainPseudoRef, MainRef, Class, prefix, classify_below, first_slash, classify_linked, without_prefix, without_refs, classify, off_in, short_name}
+use Rattle.names.specs.Category.{Category, Tag, LocalBranch, RemoteBranch, Note, Bisect, WorktreePrivate, Rewritten, PseudoRef, MainPseudoRef, MainRef, Class, prefix, classify_below, first_slash, classify_linked, without_prefix, without_refs, classify, named, category_and_short_name, off_in, short_name}
 use Rattle.names.proofs.Tests.{if_case, none≢Some}
-use Rattle.names.proofs.Prefix.{starts_length}
+use Rattle.names.proofs.Prefix.{starts_both, starts_length}
 
--- ---- the tests of a category, in their order
+-- ---- the tests of a category, first those below refs/
 
--- a test, and the answer where it holds
-abbrev pub Try : Type 0
-Try = Bool × Option Class
+pub below_refs : (r : Bytes) → category_and_short_name (bytes "refs/" ++ r) ≡
+    (if starts_with (bytes "tags/") r then Some (Tag, drop 5 r)
+    else if starts_with (bytes "heads/") r then Some (LocalBranch, drop 6 r)
+    else if starts_with (bytes "remotes/") r then Some (RemoteBranch, drop 8 r)
+    else if starts_with (bytes "notes/") r then Some (Note, r)
+    else if starts_with (bytes "bisect/") r then Some (Bisect, r)
+    else if starts_with (bytes "worktree/") r then Some (WorktreePrivate, r)
+    else if starts_with (bytes "rewritten/") r then Some (Rewritten, r)
+    else None)
+unfolding category_and_short_name classify starts_with is_pseudo every
+below_refs r =
+    go (starts_with (bytes "tags/") r) (starts_with (bytes "heads/") r) (starts_with (bytes "remotes/") r) (starts_with (bytes "notes/") r)
+    (starts_with (bytes "bisect/") r) (starts_with (bytes "worktree/") r) (starts_with (bytes "rewritten/") r)
+  where
+    n : Class → Category × Bytes
+    n k = named (bytes "refs/" ++ r) k
 
-unfoldable pub tries : Bytes → List Try
-tries s =
-    (starts_with (prefix Tag) s, without_prefix Tag)
-    ∷ (starts_with (prefix LocalBranch) s, without_prefix LocalBranch)
-    ∷ (starts_with (prefix RemoteBranch) s, without_prefix RemoteBranch)
-    ∷ (starts_with (prefix Note) s, without_refs Note)
-    ∷ (starts_with (prefix Bisect) s, without_refs Bisect)
-    ∷ (starts_with (prefix WorktreePrivate) s, without_refs WorktreePrivate)
-    ∷ (starts_with (prefix Rewritten) s, without_refs Rewritten)
-    ∷ (is_pseudo s, without_prefix PseudoRef)
-    ∷ (starts_with (bytes "main-worktree/") s, classify_below MainRef MainPseudoRef (length (bytes "main-worktree/")) (after (bytes "main-worktree/") s))
-    ∷ (starts_with (bytes "worktrees/") s, classify_linked (after (bytes "worktrees/") s) (first_slash (after (bytes "worktrees/") s)))
-    ∷ []
+    go : (a b c d e f g : Bool)
+        → option_map n (if a then without_prefix Tag else if b then without_prefix LocalBranch else if c then without_prefix RemoteBranch
+        else if d then without_refs Note else if e then without_refs Bisect else if f then without_refs WorktreePrivate else if g then without_refs Rewritten else None)
+        ≡ (if a then Some (Tag, drop 5 r) else if b then Some (LocalBranch, drop 6 r) else if c then Some (RemoteBranch, drop 8 r)
+        else if d then Some (Note, r) else if e then Some (Bisect, r) else if f then Some (WorktreePrivate, r) else if g then Some (Rewritten, r) else None)
+    go true b c d e f g = refl
+    go false true c d e f g = refl
+    go false false true d e f g = refl
+    go false false false true e f g = refl
+    go false false false false true f g = refl
+    go false false false false false true g = refl
+    go false false false false false false true = refl
+    go false false false false false false false = refl
 
-unfoldable pub first : List Try → Option Class
-first [] = None
-first (t ∷ l) = if t.0 then t.1 else first l
+module _ (s : Bytes) (h : starts_with (bytes "refs/") s ≡ false) where
+  not_below : (q : Bytes) → starts_with (bytes "refs/" ++ q) s ≡ false
+  not_below q = rw (starts_both (bytes "refs/") q s, h)
 
--- the first k tests have failed
-pub record Left (k : ℕ) (s : Bytes) : Type 0 where
-  pub is : classify s ≡ first (drop k (tries s))
-
-pub untried : (s : Bytes) → Left 0 s
-unfolding classify tries first
-untried s = record { is = refl }
-
--- the next one fails too, or holds
-module _ {k : ℕ} {s : Bytes} (l : Left k s) (h : k < 10) where
-  in_range : k < length (tries s)
-  unfolding tries
-  in_range = h
-
-  pub fails : (get_or (tries s) k (false, None)).0 ≡ false → Left (k + 1) s
-  unfolding first
-  fails e = record { is = l.is ∙ rw (add-one, drop-cons (tries s) k (false, None) in_range, e) }
-
-  pub holds : (get_or (tries s) k (false, None)).0 ≡ true → classify s ≡ (get_or (tries s) k (false, None)).1
-  unfolding first
-  holds e = l.is ∙ rw (drop-cons (tries s) k (false, None) in_range, e)
+  pub outside_refs : classify s ≡
+      (if is_pseudo s then without_prefix PseudoRef
+      else if starts_with (bytes "main-worktree/") s then classify_below MainRef MainPseudoRef 14 (drop 14 s)
+      else if starts_with (bytes "worktrees/") s then classify_linked (drop 10 s) (first_slash (drop 10 s))
+      else None)
+  unfolding classify
+  outside_refs =
+      rw (
+        not_below (bytes "tags/"),
+        not_below (bytes "heads/"),
+        not_below (bytes "remotes/"),
+        not_below (bytes "notes/"),
+        not_below (bytes "bisect/"),
+        not_below (bytes "worktree/"),
+        not_below (bytes "rewritten/"),
+      )
 
 -- ---- the first slash
 
@@ -78,19 +85,19 @@ from_next : (i : ℕ) (o : Option ℕ) → from i (option_map (λ k. suc k) o) �
 from_next i None = refl
 from_next i (Some k) = let e : i + suc k ≡ i + 1 + k = omega arith in rw e
 
--- one turn of a loop over bytes, and its end
-module _ (s : Bytes) (i : ℕ) where
-  pub slash_here : i < length s → get_or s i 0 ≡ slash → from i (first_slash (drop i s)) ≡ Some i
-  unfolding first_slash
-  slash_here h e = let z : i + 0 ≡ i = omega arith in rw (drop-cons s i 0 h, eq-eqb (get_or s i 0) slash e, z)
+slash_from : (s : Bytes) (i : ℕ) → position_from (λ b. eqb b slash) i s ≡ from i (first_slash s)
+unfolding first_slash
+slash_from [] i = refl
+slash_from (b ∷ s) i = go (eqb b slash) (slash_from s (i + 1))
+  where
+    go : (t : Bool) → position_from (λ b. eqb b slash) (i + 1) s ≡ from (i + 1) (first_slash s)
+        → cond t (Some i) (position_from (λ b. eqb b slash) (i + 1) s) ≡ from i (if t then Some 0 else option_map (λ k. suc k) (first_slash s))
+    go true ih = let z : i + 0 ≡ i = omega arith in rw z
+    go false ih = ih ∙ sym (from_next i (first_slash s))
 
-  pub slash_later : i < length s → (get_or s i 0 ≡ slash → ⊥) → from i (first_slash (drop i s)) ≡ from (i + 1) (first_slash (drop (i + 1) s))
-  unfolding first_slash
-  slash_later h e = rw (add-one, drop-cons s i 0 h, ne_eqb (get_or s i 0) slash e) (rw add-one at (from_next i (first_slash (drop (suc i) s))))
-
-  pub slash_nowhere : length s ≤ i → from i (first_slash (drop i s)) ≡ None
-  unfolding first_slash
-  slash_nowhere h = rw (drop_of_length-le s h)
+-- as the library finds it
+pub slash_found : (s : Bytes) → position (λ b. eqb b slash) s ≡ first_slash s
+slash_found s = position_from-zero (λ b. eqb b slash) s ∙ slash_from s 0 ∙ from_start (first_slash s)
 
 pub slash_in : (s : Bytes) (i : ℕ) → first_slash s ≡ Some i → i < length s
 unfolding first_slash

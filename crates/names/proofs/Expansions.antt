@@ -1,132 +1,68 @@
 -- The expansion of a namespace, component by component.
 use Rattle.std.specs.Prelude.{if◌then◌else◌}
 use mathlib.Core.Path.{◌≡◌, refl, ap, ◌∙◌}
-use Prim.Native.Nat.{ℕ, zero, suc, ◌+◌, ◌*◌, ◌-◌, ◌≤◌, ◌<◌}
-use native.Mathlib.Nat.{not-suc-le-zero, le_of_suc-le-suc}
+use Prim.Native.Nat.{ℕ, suc, ◌+◌, ◌*◌, ◌≤◌, ◌<◌}
 use native.Mathlib.Numerals.{add-one}
 use native.Mathlib.Omega.{arith}
 use mathlib.Core.Bool.{Bool, true, false}
-use mathlib.Core.List.{[], ◌∷◌, ◌++◌, append_assoc, append-nil}
+use mathlib.Core.List.{[], ◌∷◌, ◌++◌, append_assoc}
 use Rattle.std.specs.Prelude.{Option, None, Some}
 use Rattle.std.specs.Option.{option_map}
-use lib.Dec.{leb, eqb}
-use lib.ListN.{length, take, drop, get_or, length-append, length-drop, drop_of_length-le}
+use lib.Dec.{eqb}
+use lib.ListN.{length, take, drop, get_or, length-append, drop_of_length-le}
 use lib.Seq.{drop-cons}
-use borrow.Author.Tests.{leb-true, leb-false, le-leb, lt-leb}
+use borrow.Author.Tests.{le-leb}
 use Rattle.names.specs.Bytes.{Bytes, bytes, slash}
 use Rattle.names.specs.Category.{first_slash}
-use Rattle.names.specs.Means.{held, filled, if_fits, slash_found}
+use Rattle.names.specs.Means.{if_fits}
 use Rattle.names.specs.Name.{longest, fits}
 use Rattle.names.specs.Namespace.{expand, expand_rest}
-use Rattle.names.specs.Promises.{first_part, width_in}
-use Rattle.names.specs.declared.fullname.Slash.{Slash}
-use Rattle.names.specs.declared.fullname.Slash.TheVariants.{At, Nowhere}
-use Rattle.names.specs.declared.name.Filled.{Filled}
-use Rattle.names.specs.declared.name.Filled.TheVariants.{To, TooLong}
-use Rattle.names.proofs.Parts.{tail_part}
-use Rattle.names.proofs.Held.{filled_is, filled_fits, filled_longer}
+use Rattle.names.specs.Promises.{width_in}
+use Rattle.names.proofs.Held.{fits_is, longer_not}
 
 -- ---- the first component ends at the first slash
 
-abbrev before : Option ℕ → Bytes → Bytes
-before None s = s
-before (Some i) s = take i s
+abbrev rest_by : Bytes → Option ℕ → Bytes
+rest_by s None = s ++ bytes "/"
+rest_by s (Some i) = take i s ++ (bytes "/" ++ expand (drop (i + 1) s))
 
-before_slash : (s : Bytes) → before (first_slash s) s ≡ first_part s
-unfolding first_slash first_part
-before_slash [] = refl
-before_slash (b ∷ s) = go (eqb b slash) (first_slash s) (before_slash s)
+rest_is : (s : Bytes) → expand_rest s ≡ rest_by s (first_slash s)
+unfolding first_slash expand expand_rest
+rest_is [] = refl
+rest_is (b ∷ s) = go (eqb b slash) (first_slash s) (rest_is s)
   where
-    go : (t : Bool) (o : Option ℕ) → before o s ≡ first_part s → before (if t then Some 0 else option_map (λ i. suc i) o) (b ∷ s) ≡ (if t then [] else b ∷ first_part s)
+    go : (t : Bool) (o : Option ℕ) → expand_rest s ≡ rest_by s o
+        → (if t then bytes "/refs/namespaces/" ++ expand_rest s else b ∷ expand_rest s) ≡ rest_by (b ∷ s) (if t then Some 0 else option_map (λ i. suc i) o)
     go true o ih = refl
     go false None ih = ap (λ (l : Bytes). b ∷ l) ih
-    go false (Some i) ih = ap (λ (l : Bytes). b ∷ l) ih
+    go false (Some i) ih = let k : suc i + 1 ≡ suc (i + 1) = omega arith in rw k (ap (λ (l : Bytes). b ∷ l) ih)
 
-module _ (s : Bytes) (r : Slash) (e : slash_found r ≡ first_slash s) where
-  pub part_to : (i : ℕ) → r ≡ At i → take i s ≡ first_part s
-  part_to i g = rw (← e, g) at (before_slash s)
-
-  pub part_whole : r ≡ Nowhere → s ≡ first_part s
-  part_whole g = rw (← e, g) at (before_slash s)
-
--- ---- what is left of the expansion, where a component begins at i; nothing is behind the last one
-
-abbrev pub expand_from : Bytes → ℕ → Bytes
-expand_from s i = if leb i (length s) then expand (drop i s) else []
-
-from_next : (b : ℕ) (s : Bytes) (i : ℕ) → expand_from (b ∷ s) (suc i) ≡ expand_from s i
-from_next b s i = go (leb i (length s)) refl
-  where
-    go : (f : Bool) → leb i (length s) ≡ f → expand_from (b ∷ s) (suc i) ≡ expand_from s i
-    go true f = rw (f, le-leb (suc i) (suc (length s)) (omega (arith, leb-true i (length s) f)))
-    go false f = rw (f, lt-leb (suc i) (suc (length s)) (omega (arith, leb-false i (length s) f)))
-
-pub from_start : (s : Bytes) → expand_from s 0 ≡ expand s
-from_start s = rw (le-leb 0 (length s) (omega arith))
-
-from_drop : (s : Bytes) (start i : ℕ) → start ≤ length s → expand_from (drop start s) i ≡ expand_from s (start + i)
-from_drop s zero i h = let z : 0 + i ≡ i = omega arith in rw z
-from_drop [] (suc start) i h = absurd (not-suc-le-zero h)
-from_drop (b ∷ s) (suc start) i h =
-    let k : suc start + i ≡ suc (start + i) = omega arith in
-    rw (k, from_next b s (start + i)) (from_drop s start i (le_of_suc-le-suc h))
-
--- the first component, its slash, and what is left
-rest_parts : (s : Bytes) → expand_rest s ≡ first_part s ++ (bytes "/" ++ expand_from s (length (first_part s) + 1))
-unfolding expand expand_rest first_part
-rest_parts [] = refl
-rest_parts (b ∷ s) = go (eqb b slash) (rest_parts s)
-  where
-    go : (f : Bool) → expand_rest s ≡ first_part s ++ (bytes "/" ++ expand_from s (length (first_part s) + 1))
-        → (if f then bytes "/refs/namespaces/" ++ expand_rest s else b ∷ expand_rest s) ≡ (if f then [] else b ∷ first_part s) ++ (bytes "/" ++ expand_from (b ∷ s) (length (if f then [] else b ∷ first_part s) + 1))
-    go true ih = rw (from_next b s 0, from_start s)
-    go false ih =
-        let k : suc (length (first_part s)) + 1 ≡ suc (length (first_part s) + 1) = omega arith in
-        rw (k, from_next b s (length (first_part s) + 1), ih)
-
-part_length : (s : Bytes) → length (first_part s) ≤ length s
-unfolding first_part
-part_length [] = omega arith
-part_length (b ∷ s) = go (eqb b slash) (part_length s)
-  where
-    go : (f : Bool) → length (first_part s) ≤ length s → length (if f then [] else b ∷ first_part s) ≤ suc (length s)
-    go true h = omega arith
-    go false h = omega (arith, h)
-
--- ---- a turn of the walk: x is there, and the component p, which begins at `start`, is put behind it
-
-module _ (s : Bytes) (start : ℕ) (x : Bytes) where
+-- a name holds x, and what is left of the namespace is s: with the first component put behind x, what is left is behind its slash
+module _ (x s : Bytes) where
   abbrev pub with_part : Bytes → Bytes
   with_part p = x ++ (bytes "refs/namespaces/" ++ (p ++ bytes "/"))
 
-  turned : start ≤ length s → x ++ expand_from s start ≡ with_part (first_part (drop start s)) ++ expand_from s (start + length (first_part (drop start s)) + 1)
+  pub part_put : (i : ℕ) → first_slash s ≡ Some i → x ++ expand s ≡ with_part (take i s) ++ expand (drop (i + 1) s)
   unfolding expand
-  turned h =
-      let k : start + (length (first_part (drop start s)) + 1) ≡ start + length (first_part (drop start s)) + 1 = omega arith in
-      rw (le-leb start (length s) h, rest_parts (drop start s), from_drop s start (length (first_part (drop start s)) + 1) h, k) (simp append_assoc)
+  part_put i e = rw (rest_is s, e) (simp append_assoc)
 
-  -- behind the last one all is there
-  pub turns_end : length s < start → fits x ≡ true → expand s ≡ x ++ expand_from s start → Some x ≡ if_fits (expand s)
-  turns_end h f i = rw (i, lt-leb start (length s) h, append-nil, f)
+  -- the last one
+  pub last_put : first_slash s ≡ None → x ++ expand s ≡ with_part s
+  unfolding expand
+  last_put e = rw (rest_is s, e)
 
-module _ (s : Bytes) (start : ℕ) (h : start ≤ length s) (p : Bytes) (q : p ≡ first_part (take (length s - start) (drop start s))) where
-  is_part : p ≡ first_part (drop start s)
-  is_part = rw (tail_part s start) at q
+-- what the name then holds
+pub part_held : (x s t b w : Bytes) (i : ℕ) → first_slash s ≡ Some i → w ≡ x ++ expand s → t ≡ take i s → Some b ≡ if_fits (with_part x s t) → w ≡ b ++ expand (drop (i + 1) s)
+part_held x s t b w i e h p f = rw (fits_is (with_part x s t) b f, p) (h ∙ part_put x s i e)
 
-  pub part_within : start + length p ≤ length s
-  part_within = rw is_part (omega (arith, h, part_length (drop start s), length-drop start s))
+pub last_held : (x s w : Bytes) (o : Option Bytes) → first_slash s ≡ None → w ≡ x ++ expand s → o ≡ if_fits (with_part x s s) → o ≡ if_fits w
+last_held x s w o e h f = rw (h ∙ last_put x s e) f
 
-  module _ (x : Bytes) (i : expand s ≡ x ++ expand_from s start) (b : Bytes) (f : Filled) (e : filled b f ≡ if_fits (with_part s start x p)) where
-    next : expand s ≡ with_part s start x p ++ expand_from s (start + length p + 1)
-    next = i ∙ rw is_part (turned s start x h)
-
-    pub part_put : (k : ℕ) → f ≡ To k → (fits (held b k) ≡ true) × (expand s ≡ held b k ++ expand_from s (start + length p + 1))
-    part_put k g =
-        let w = filled_is b (with_part s start x p) f e k g in
-        (rw w (filled_fits b (with_part s start x p) f e k g), rw w next)
-
-    pub part_refused : f ≡ TooLong → None ≡ if_fits (expand s)
-    part_refused g = filled_longer b (with_part s start x p) f e (expand s) (rw next (simp length-append (omega arith))) g
+-- what does not fit with a component fits not at all
+pub part_refused : (x s t w : Bytes) (i : ℕ) → first_slash s ≡ Some i → w ≡ x ++ expand s → t ≡ take i s → None ≡ if_fits (with_part x s t) → None ≡ if_fits w
+part_refused x s t w i e h p f =
+    let k = h ∙ rw (← p) at (part_put x s i e) in
+    rw k (longer_not (with_part x s t) (with_part x s t ++ expand (drop (i + 1) s)) (simp length-append (omega arith)) f)
 
 -- ---- the length of the expansion, byte by byte
 

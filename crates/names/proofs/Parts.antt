@@ -12,6 +12,10 @@ use Rattle.names.specs.Means.{held}
 pub tail_part : (s : Bytes) (i : ℕ) → take (length s - i) (drop i s) ≡ drop i s
 tail_part s i = take_all (length s - i) (drop i s) (simp length-drop (omega arith))
 
+-- `&s[0..]`
+pub whole_part : (s : Bytes) → take (length s - 0) s ≡ s
+whole_part s = tail_part s 0
+
 pub held_is : (b : Bytes) (l : ℕ) → held b l ≡ take l b
 unfolding held
 held_is b l = refl

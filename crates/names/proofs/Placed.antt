@@ -5,18 +5,15 @@ use Prim.Native.Nat.{ℕ, ◌+◌}
 use mathlib.Core.List.{[], ◌∷◌, ◌++◌}
 use mathlib.Core.Bool.{Bool, true, false, false≢true}
 use Rattle.std.specs.Prelude.{Option, None, Some}
+use Rattle.std.specs.Option.{option_map}
 use mathlib.Core.Logic.{◌⊎◌, inl, inr}
 use lib.Dec.{eqb}
-use lib.ListN.{take, drop}
+use lib.ListN.{drop}
 use Rattle.names.specs.Bytes.{Bytes, bytes, starts_with, every}
 use Rattle.names.specs.Name.{is_pseudo, under_refs}
-use Rattle.names.specs.Category.{Category, Tag, LocalBranch, RemoteBranch, Note, Bisect, PseudoRef, MainPseudoRef, MainRef, LinkedRef, LinkedPseudoRef, WorktreePrivate, Rewritten, Class, first_slash, classify_below, classify_linked, classify, category_in, off_in, category, short_name, private_category, is_private}
+use Rattle.names.specs.Category.{Category, Tag, LocalBranch, RemoteBranch, Note, Bisect, PseudoRef, MainPseudoRef, MainRef, LinkedRef, LinkedPseudoRef, WorktreePrivate, Rewritten, Class, first_slash, classify_below, classify_linked, classify, named, category_and_short_name, category_in, off_in, category, short_name, private_category, is_private}
 use Rattle.names.specs.Namespace.{expand}
 use Rattle.names.specs.Route.{own, shared, Place, at, route_as, route, packed_as, packed_name}
-use Rattle.names.specs.Means.{category_with, class_of}
-use Rattle.names.specs.declared.fullname.Category as code-category
-use Rattle.names.specs.declared.fullname.Class as code
-use Rattle.names.specs.declared.fullname.Class.TheVariants.{As, Unclassified}
 use Rattle.names.proofs.Tests.{if_case, false_of, not_both, and_left}
 use Rattle.names.proofs.Prefix.{other_start}
 
@@ -158,26 +155,61 @@ module _ {c : Bytes} where
   placed_packed n (apart_packed {q = q} _ h) e v = let d : q ≡ n = cc in not_both (rw d at h) v
   placed_packed n (apart _ h) e v = cc
 
--- ---- by the code's class of the name
+-- ---- by the category and the short name together
 
-module _ (s : Bytes) (k : code.Class) (e : class_of s k ≡ classify s) where
-  module _ (c : code-category.Category) (off : ℕ) (told : k ≡ As c off) where
-    pub route_class : route s ≡ route_as (Some (category_with (λ j. take j (drop 10 s)) c)) s (drop off s)
-    unfolding route category short_name
-    route_class = rw (← e, told)
+-- the short name, which is the whole name where there is no category
+abbrev short_in : Bytes → Option (Category × Bytes) → Bytes
+short_in s None = s
+short_in s (Some p) = p.1
 
-    pub packed_class : packed_name s ≡ packed_as (Some (category_with (λ j. take j (drop 10 s)) c)) s (drop off s)
-    unfolding packed_name category short_name
-    packed_class = rw (← e, told)
+module _ (s : Bytes) where
+  category_in_class : (o : Option Class) → category_in o ≡ option_map (λ (p : Category × Bytes). p.0) (option_map (named s) o)
+  category_in_class None = refl
+  category_in_class (Some k) = refl
 
-  module _ (told : k ≡ Unclassified) where
+  short_in_class : (o : Option Class) → drop (off_in o) s ≡ short_in s (option_map (named s) o)
+  short_in_class None = refl
+  short_in_class (Some k) = refl
+
+  pub category_is : category s ≡ option_map (λ (p : Category × Bytes). p.0) (category_and_short_name s)
+  unfolding category category_and_short_name
+  category_is = category_in_class (classify s)
+
+  pub short_is : short_name s ≡ short_in s (category_and_short_name s)
+  unfolding short_name category_and_short_name
+  short_is = short_in_class (classify s)
+
+  module _ (c : Category) (t : Bytes) (e : Some (c, t) ≡ category_and_short_name s) where
+    pub private_class : is_private s ≡ private_category (Some c)
+    unfolding is_private
+    private_class = rw (category_is, ← e)
+
+    pub short_class : short_name s ≡ t
+    short_class = rw (short_is, ← e)
+
+    pub route_class : route s ≡ route_as (Some c) s t
+    unfolding route
+    route_class = rw (category_is, short_is, ← e)
+
+    pub packed_class : packed_name s ≡ packed_as (Some c) s t
+    unfolding packed_name
+    packed_class = rw (category_is, short_is, ← e)
+
+  module _ (e : None ≡ category_and_short_name s) where
+    pub private_none : is_private s ≡ false
+    unfolding is_private
+    private_none = rw (category_is, ← e)
+
+    pub short_none : short_name s ≡ s
+    short_none = rw (short_is, ← e)
+
     pub route_none : route s ≡ at shared s
-    unfolding route route_as category
-    route_none = rw (← e, told)
+    unfolding route route_as
+    route_none = rw (category_is, short_is, ← e)
 
     pub packed_none : packed_name s ≡ Some s
-    unfolding packed_name packed_as category
-    packed_none = rw (← e, told)
+    unfolding packed_name packed_as
+    packed_none = rw (category_is, short_is, ← e)
 
 -- ---- behind a namespace's expansion
 

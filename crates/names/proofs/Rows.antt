@@ -1,20 +1,19 @@
 -- Rows 3 to 5 of the table: what is left of them after each check.
-use mathlib.Core.Path.{◌≡◌, refl, ap, sym, ◌∙◌}
+use mathlib.Core.Path.{◌≡◌, refl, sym, ◌∙◌}
 use Prim.Native.Nat.{◌≤◌}
 use mathlib.Core.Bool.{Bool, true, false, ◌&&◌}
 use Rattle.std.specs.Prelude.{Option, None, Some}
-use lib.ListN.{length}
-use borrow.Author.Tests.{leb-true, le-leb}
+use lib.ListN.{length, take}
+use borrow.Author.Tests.{leb-true}
 use Rattle.names.specs.Bytes.{Bytes}
-use Rattle.names.specs.Check.{unless, ◌or_else◌, Checked, refuses, checked}
+use Rattle.names.specs.Check.{unless, ◌or_else◌, Checked, gives, checked}
 use Rattle.names.specs.Name.{longest, fits}
+use Rattle.names.specs.Category.{Category, full_of, to_full_name}
 use Rattle.names.specs.Namespace.{expand, expansion, passes_if_given, names_check, expanded}
-use Rattle.names.specs.WellFormed.{well_formed}
-use Rattle.names.specs.Means.{number, check_of, full_check, full_checked}
-use Rattle.names.specs.declared.name.Refusal.{Refusal}
-use Rattle.names.specs.declared.name.Verdict.{Verdict}
-use Rattle.names.specs.declared.name.Verdict.TheVariants.{Accepted, Refused}
+use Rattle.names.specs.WellFormed.{well_formed, complete}
+use Rattle.names.specs.Means.{full_check, full_checked}
 use Rattle.names.proofs.Tests.{and_right, none≢Some}
+use Rattle.names.proofs.Held.{cut_fits}
 
 -- nothing is asked where nothing is given
 pub names_none : names_check None None ≡ None
@@ -63,12 +62,43 @@ expansion_fits namespace h = go (passes_if_given fits namespace) (passes_if_give
     go true false z f r = absurd (none≢Some (sym r))
     go false y z f r = absurd (none≢Some (sym r))
 
--- a namespace by its verdict
-module _ (s : Bytes) (v : Verdict) (e : check_of v ≡ names_check None (Some s)) where
-  pub accepted_is : v ≡ Accepted → (t : Bytes) → (fits (expand s) ≡ true → t ≡ expand s) → checked (check_of v) t ≡ expanded s
-  accepted_is g t h =
-      let passes : names_check None (Some s) ≡ None = sym e ∙ ap check_of g in
-      rw (e, h (le-leb (length (expand s)) longest (expansion_fits (Some s) passes))) (sym (expanded_is s))
+-- a namespace is checked as a partial name is, and then for its expansion
+pub namespace_rows : (s : Bytes) → names_check None (Some s) ≡ (names_check (Some s) None or_else unless 5 (fits (expand s)))
+unfolding names_check
+namespace_rows s = go (fits s) (well_formed s)
+  where
+    go : (f w : Bool)
+        → (unless 3 (true && f) or_else unless 4 (true && w) or_else unless 5 (fits (expand s)))
+        ≡ ((unless 3 (f && true) or_else unless 4 (w && true) or_else None) or_else unless 5 (fits (expand s)))
+    go true true = refl
+    go true false = refl
+    go false w = refl
 
-  pub refused_is : (why : Refusal) → v ≡ Refused why → refuses (number why) ≡ expanded s
-  refused_is why g = rw (expanded_is s, ← e, g)
+-- a short name that fits is refused as its full name is
+pub to_full_checked : (c : Category) (s : Bytes) → fits s ≡ true → to_full_name c s ≡ full_checked (full_of c s)
+unfolding to_full_name full_checked
+to_full_checked c s h = rw h
+
+-- what was not refused fits
+pub partial_fits : (s : Bytes) → None ≡ names_check (Some s) None → fits s ≡ true
+unfolding names_check
+partial_fits s e = go (fits s) e
+  where
+    go : (f : Bool) → None ≡ (unless 3 (f && true) or_else unless 4 (well_formed s && true) or_else None) → f ≡ true
+    go true h = refl
+    go false h = none≢Some h
+
+pub full_fits : (s : Bytes) → None ≡ full_check s → fits s ≡ true
+full_fits s e = go (fits s) e
+  where
+    go : (f : Bool) → None ≡ (unless 3 f or_else unless 4 (complete s)) → f ≡ true
+    go true h = refl
+    go false h = none≢Some h
+
+-- a name of what was not refused
+pub cut_partial : (s t : Bytes) → None ≡ names_check (Some s) None → t ≡ take longest s → gives t ≡ checked (names_check (Some s) None) s
+cut_partial s t e h = rw (← e, cut_fits s t (partial_fits s e) h)
+
+pub cut_full : (s t : Bytes) → None ≡ full_check s → t ≡ take longest s → gives t ≡ full_checked s
+unfolding full_checked
+cut_full s t e h = rw (← e, cut_fits s t (full_fits s e) h)

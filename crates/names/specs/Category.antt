@@ -94,6 +94,14 @@ abbrev pub off_in : Option Class → ℕ
 off_in None = 0
 off_in (Some k) = k.off
 
+-- the category, and what is left of the name s behind what it takes off
+abbrev pub named : Bytes → Class → Category × Bytes
+named s k = (k.category, drop k.off s)
+
+-- the category and the short name, where there is a category
+unfoldable pub category_and_short_name : Bytes → Option (Category × Bytes)
+category_and_short_name s = option_map (named s) (classify s)
+
 -- `category`
 unfoldable pub category : Bytes → Option Category
 category s = category_in (classify s)

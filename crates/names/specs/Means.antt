@@ -1,46 +1,39 @@
 -- What the code's types mean.
 use Prim.Native.Nat.{ℕ, Ordering}
-use Rattle.std.specs.Prelude.{Option, None, Some}
-use Rattle.std.specs.Prelude.{take, drop, if◌then◌else◌}
-use Rattle.names.specs.Bytes.{Bytes, bytes, after}
-use Rattle.names.specs.Check.{Check, unless, ◌or_else◌, Checked, checked}
+use denote.Ref.{Bor}
+use Rattle.std.specs.Prelude.{Option, None, Some, Result, Ok, Err}
+use Rattle.std.specs.Prelude.{◌++◌, take, if◌then◌else◌}
+use Rattle.std.specs.Option.{option_map}
+use Rattle.names.specs.Bytes.{Bytes}
+use Rattle.names.specs.Check.{Check, unless, ◌or_else◌, Checked, gives, refuses, checked}
 use Rattle.names.specs.Name.{fits}
 use Rattle.names.specs.WellFormed.{complete}
-use Rattle.names.specs.Category.{Category, Tag, LocalBranch, RemoteBranch, Note, Bisect, WorktreePrivate, Rewritten, PseudoRef, MainPseudoRef, MainRef, LinkedPseudoRef, LinkedRef, Class, class}
+use Rattle.names.specs.Category.{Category, Tag, LocalBranch, RemoteBranch, Note, Bisect, WorktreePrivate, Rewritten, PseudoRef, MainPseudoRef, MainRef, LinkedPseudoRef, LinkedRef}
 use Rattle.names.specs.Route.{Base, own, shared, Place, at}
-use Rattle.names.specs.declared.bytes.Order.{Order}
-use Rattle.names.specs.declared.bytes.Order.TheVariants.{Less, Equal, Greater}
+use Rattle.std.specs.declared.cmp.Ordering as answer
+use Rattle.std.specs.declared.cmp.Ordering.TheVariants.{Less, Equal, Greater}
+use Rattle.names.specs.declared.bytes.Joined.{Joined}
 use Rattle.names.specs.declared.name.Name.{Name}
 use Rattle.names.specs.declared.name.PartialName.{PartialName}
-use Rattle.names.specs.declared.name.Made.{Made}
-use Rattle.names.specs.declared.name.Filled.{Filled}
-use Rattle.names.specs.declared.name.Filled.TheVariants as put
 use Rattle.names.specs.declared.name.Refusal.{Refusal}
-use Rattle.names.specs.declared.name.Refusal.TheVariants.{TooLong, Malformed, ExpansionTooLong}
-use Rattle.names.specs.declared.name.Verdict.{Verdict}
-use Rattle.names.specs.declared.name.Verdict.TheVariants.{Accepted, Refused}
-use Rattle.names.specs.declared.name.CheckedPartial.{CheckedPartial}
+use Rattle.names.specs.declared.name.Refusal.TheVariants as refusal
+use Rattle.names.specs.declared.name.TooLong.{TooLong}
 use Rattle.names.specs.declared.fullname.FullName.{FullName}
-use Rattle.names.specs.declared.fullname.CheckedFull.{CheckedFull}
 use Rattle.names.specs.declared.namespace.Namespace.{Namespace}
-use Rattle.names.specs.declared.namespace.CheckedNamespace.{CheckedNamespace}
 use Rattle.names.specs.declared.find.Base as code-base
 use Rattle.names.specs.declared.find.Base.TheVariants.{Own, Shared}
-use Rattle.names.specs.declared.find.Routed.{Routed}
-use Rattle.names.specs.declared.find.Packed.{Packed}
-use Rattle.names.specs.declared.find.Packed.TheVariants.{From, Never}
-use Rattle.names.specs.declared.fullname.Slash.{Slash}
-use Rattle.names.specs.declared.fullname.Slash.TheVariants.{At, Nowhere}
 use Rattle.names.specs.declared.fullname.Category as code
 use Rattle.names.specs.declared.fullname.Category.TheVariants as variant
-use Rattle.names.specs.declared.fullname.Class as code-class
-use Rattle.names.specs.declared.fullname.Class.TheVariants.{As, Unclassified}
 
 -- the answer of a comparison
-abbrev pub ordering : Order → Ordering
+abbrev pub ordering : answer.Ordering → Ordering
 ordering Less = Ordering.lt
 ordering Equal = Ordering.eq
 ordering Greater = Ordering.gt
+
+-- the path that two parts make
+abbrev pub path : Joined → Bytes
+path j = j.first.now ++ j.rest.now
 
 -- ---- names
 
@@ -65,13 +58,13 @@ abbrev pub expansion_content : Namespace → Bytes
 expansion_content n = content n.0
 
 -- the bytes of a name that was made, if it was
-abbrev pub made_name : Made → Option Bytes
-made_name r = if r.ok then Some (content r.name) else None
+abbrev pub made_name : Option Name → Option Bytes
+made_name r = option_map content r
 
--- the bytes that were put in front, if they found room
-abbrev pub filled : Bytes → Filled → Option Bytes
-filled b (put.To k) = Some (held b k)
-filled b put.TooLong = None
+-- the bytes of a name behind which some were put, if they found room
+abbrev pub pushed : {A : Type 0} → Name → Result A TooLong → Option Bytes
+pushed n (Ok a) = Some (content n)
+pushed n (Err e) = None
 
 -- what a name can hold
 abbrev pub if_fits : Bytes → Option Bytes
@@ -81,26 +74,19 @@ if_fits s = if fits s then Some s else None
 
 -- the number of a refusal, in document 01's table
 abbrev pub number : Refusal → ℕ
-number TooLong = 3
-number Malformed = 4
-number ExpansionTooLong = 5
+number refusal.TooLong = 3
+number refusal.Malformed = 4
+number refusal.ExpansionTooLong = 5
 
--- a verdict as a check
-abbrev pub check_of : Verdict → Check
-check_of Accepted = None
-check_of (Refused r) = Some (number r)
+-- a result as a check
+abbrev pub check_of : {A : Type 0} → Result A Refusal → Check
+check_of (Ok a) = None
+check_of (Err r) = Some (number r)
 
--- names that were checked: the bytes, or the number
-abbrev pub checked_partial : CheckedPartial → Checked Bytes
-checked_partial r = checked (check_of r.verdict) (partial_content r.name)
-
--- the same of a full name
-abbrev pub checked_full : CheckedFull → Checked Bytes
-checked_full r = checked (check_of r.verdict) (full_content r.name)
-
--- the same of a namespace: its expansion
-abbrev pub checked_namespace : CheckedNamespace → Checked Bytes
-checked_namespace r = checked (check_of r.verdict) (expansion_content r.name)
+-- what was checked, by the bytes of its answer: these, or the number
+abbrev pub checked_of : {A : Type 0} → (A → Bytes) → Result A Refusal → Checked Bytes
+checked_of f (Ok a) = gives (f a)
+checked_of f (Err r) = refuses (number r)
 
 -- what a full name must be: 3 "over 250 bytes", 4 "not complete where a complete one is due"
 abbrev pub full_check : Bytes → Check
@@ -112,34 +98,28 @@ full_checked s = checked (full_check s) s
 
 -- ---- categories
 
--- where a slash was found
-abbrev pub slash_found : Slash → Option ℕ
-slash_found (At i) = Some i
-slash_found Nowhere = None
+-- the category, with its worktree's name
+abbrev pub category_of : code.Category → Category
+category_of variant.Tag = Tag
+category_of variant.LocalBranch = LocalBranch
+category_of variant.RemoteBranch = RemoteBranch
+category_of variant.Note = Note
+category_of variant.PseudoRef = PseudoRef
+category_of variant.MainPseudoRef = MainPseudoRef
+category_of variant.MainRef = MainRef
+category_of (variant.LinkedPseudoRef w) = LinkedPseudoRef w.now
+category_of (variant.LinkedRef w) = LinkedRef w.now
+category_of variant.Bisect = Bisect
+category_of variant.Rewritten = Rewritten
+category_of variant.WorktreePrivate = WorktreePrivate
 
--- a category whose worktree's name of k bytes is w k
-abbrev pub category_with : (ℕ → Bytes) → code.Category → Category
-category_with w variant.Tag = Tag
-category_with w variant.LocalBranch = LocalBranch
-category_with w variant.RemoteBranch = RemoteBranch
-category_with w variant.Note = Note
-category_with w variant.PseudoRef = PseudoRef
-category_with w variant.MainPseudoRef = MainPseudoRef
-category_with w variant.MainRef = MainRef
-category_with w (variant.LinkedPseudoRef k) = LinkedPseudoRef (w k)
-category_with w (variant.LinkedRef k) = LinkedRef (w k)
-category_with w variant.Bisect = Bisect
-category_with w variant.Rewritten = Rewritten
-category_with w variant.WorktreePrivate = WorktreePrivate
+-- a category and the short name beside it
+abbrev pub named_of : code.Category × Bor Bytes → Category × Bytes
+named_of p = (category_of p.0, p.1.now)
 
--- a class, with the worktree's name told in the same way
-abbrev pub class_with : (ℕ → Bytes) → code-class.Class → Option Class
-class_with w (As c off) = class (category_with w c) off
-class_with w Unclassified = None
-
--- the class of the name s, where a worktree's name stands behind `worktrees/`
-abbrev pub class_of : Bytes → code-class.Class → Option Class
-class_of s r = class_with (λ k. take k (after (bytes "worktrees/") s)) r
+-- the same, where the name has a category
+abbrev pub class_of : Option (code.Category × Bor Bytes) → Option (Category × Bytes)
+class_of r = option_map named_of r
 
 -- ---- where a name is read
 
@@ -148,11 +128,10 @@ abbrev pub base_of : code-base.Base → Base
 base_of Own = own
 base_of Shared = shared
 
--- the place of the name s
-abbrev pub place_of : Bytes → Routed → Place
-place_of s r = at (base_of r.base) (drop r.off s)
+-- the region and the path in it
+abbrev pub place_of : code-base.Base × Bor Bytes → Place
+place_of r = at (base_of r.0) r.1.now
 
--- under which name s is sought packed
-abbrev pub packed_of : Bytes → Packed → Option Bytes
-packed_of s (From off) = Some (drop off s)
-packed_of s Never = None
+-- the name that is sought packed
+abbrev pub packed_of : Option (Bor Bytes) → Option Bytes
+packed_of r = option_map (λ s. s.now) r

@@ -1,5 +1,5 @@
--- What private functions promise: the rules of a well-formed name, byte by byte; a component of a name; the width of a
--- byte in an expansion; and bytes that two names share.
+-- What private functions promise: the rules of a well-formed name, byte by byte; a component of a name; and the width of a
+-- byte in an expansion.
 use Rattle.std.specs.Prelude.{ℕ, zero, suc, ◌+◌, [], ◌∷◌, Bool, true, ◌&&◌, ◌||◌, not, eqb, leb, length, get_or, if◌then◌else◌}
 use Rattle.names.specs.Bytes.{Bytes, bytes, slash, same, starts_with, ends_with, contains, every}
 use Rattle.names.specs.WellFormed.{allowed}
@@ -63,8 +63,3 @@ first_part (b ∷ s) = if eqb b slash then [] else b ∷ first_part s
 -- how many bytes a byte of a namespace becomes in the expansion
 abbrev pub width_in : ℕ → ℕ
 width_in b = if eqb b slash then length (bytes "/refs/namespaces/") else 1
-
--- are n bytes from i on the same in both?
-abbrev pub agree : Bytes → Bytes → ℕ → ℕ → Bool
-agree a b i zero = true
-agree a b i (suc n) = agree a b i n && eqb (get_or a (i + n) 0) (get_or b (i + n) 0)

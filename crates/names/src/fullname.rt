@@ -1,20 +1,18 @@
 // Full names and their categories (fullname.rs, name.rs).
-ghost use Rattle.std.specs.Prelude.{◌≡◌, ◌++◌, ℕ, take};
+ghost use Rattle.std.specs.Prelude.{◌≡◌, ◌++◌, ℕ, drop};
 ghost use Rattle.std.specs.Prelude.{Some};
-ghost use Rattle.names.specs.Bytes.{Bytes, bytes, strip};
-ghost use Rattle.names.specs.Check.{refuses};
-ghost use Rattle.names.specs.Category.{class, first_slash, classify_below, classify_linked, classify, private_category, is_private, short_name, behind, full_of, to_full_name};
-ghost use Rattle.names.specs.Means.{filled, if_fits, slash_found, category_with, class_with, class_of, check_of, full_check, checked_full, full_checked};
+ghost use Rattle.std.specs.Option.{option_map};
+ghost use Rattle.names.specs.Bytes.{Bytes, bytes};
+ghost use Rattle.names.specs.Category.{named, first_slash, classify_below, classify_linked, category_and_short_name, private_category, is_private, short_name, behind, full_of, to_full_name};
+ghost use Rattle.names.specs.Means.{category_of, class_of, full_content, made_name, if_fits, check_of, checked_of, full_check, full_checked};
 
 use crate::bytes::{starts_with, without};
-use crate::name::{
-    Filled, LONGEST, Name, Refusal, Verdict, cut_name, empty, front, is_pseudo_ref, put_joined,
-};
+use crate::name::{LONGEST, Name, Refusal, is_pseudo_ref};
 use crate::validate::complete;
 
-// The linked ones hold the length of their worktree's name, which stands behind worktrees/.
-#[derive(Clone, Copy)]
-pub enum Category {
+// The linked ones hold their worktree's name, which stands behind worktrees/.
+#[derive(Debug, Clone, Copy, PartialEq, Eq)]
+pub enum Category<'a> {
     Tag,
     LocalBranch,
     RemoteBranch,
@@ -22,268 +20,208 @@ pub enum Category {
     PseudoRef,
     MainPseudoRef,
     MainRef,
-    LinkedPseudoRef { name_len: usize },
-    LinkedRef { name_len: usize },
+    LinkedPseudoRef { name: &'a [u8] },
+    LinkedRef { name: &'a [u8] },
     Bisect,
     Rewritten,
     WorktreePrivate,
-}
-
-// A name's category, and how many bytes are taken off it to give the short name.
-#[derive(Clone, Copy)]
-pub enum Class {
-    As { category: Category, off: usize },
-    Unclassified,
 }
 
 // A complete name.
 #[derive(Clone, Copy)]
 pub struct FullName(pub Name);
 
-// A full name that was checked; it counts where it is accepted.
-#[derive(Clone, Copy)]
-pub struct CheckedFull {
-    pub verdict: Verdict,
-    pub name: FullName,
-}
-
-// Where a slash is.
-#[derive(Clone, Copy)]
-pub(crate) enum Slash {
-    At(usize),
-    Nowhere,
-}
-
 // The first slash.
-pub(crate) fn find_slash(s: &[u8]) -> Slash
-    ensures { slash_found result ≡ first_slash s.now }
+pub(crate) fn find_slash(s: &[u8]) -> Option<usize>
+    ensures { result ≡ first_slash s.now }
 {
-    let mut i = 0;
-    while i < s.len() {
-        if s[i] == b'/' {
-            return Slash::At(i);
-        }
-        i += 1;
-    }
-    Slash::Nowhere
+    s.iter().position(|&b| b == b'/')
 }
 
-fn classified(category: Category, off: usize) -> Class
-    ensures { (w : ℕ → Bytes) → class_with w result ≡ class (category_with w category) off }
-{
-    Class::As { category, off }
-}
-
-// What stands behind main-worktree/ or a worktree's name, from byte off of the name on.
-fn classify_below(rest: &[u8], full: Category, pseudo: Category, off: usize) -> Class
-    ensures { (w : ℕ → Bytes) → class_with w result ≡ classify_below (category_with w full) (category_with w pseudo) off rest.now }
+// What stands behind main-worktree/ or a worktree's name.
+#[tactic(auto, unfolding(crate::specs::Category::classify_below))]
+fn classify_below<'a>(
+    rest: &'a [u8],
+    full: Category<'a>,
+    pseudo: Category<'a>,
+) -> Option<(Category<'a>, &'a [u8])>
+    ensures { (s : Bytes) → (off : ℕ) → drop off s ≡ rest.now → class_of result ≡ option_map (named s) (classify_below (category_of full.entry) (category_of pseudo.entry) off rest.now) }
 {
     if starts_with(rest, b"refs/") {
-        return Class::As {
-            category: full,
-            off,
-        };
+        return Some((full, rest));
     }
     if is_pseudo_ref(rest) {
-        return Class::As {
-            category: pseudo,
-            off,
-        };
+        return Some((pseudo, rest));
     }
-    Class::Unclassified
+    None
 }
 
 // What stands behind worktrees/: the worktree's name up to the first slash, and what stands behind that.
-fn classify_linked(rest: &[u8]) -> Class
-    ensures { class_with (λ k. take k rest.now) result ≡ classify_linked rest.now (first_slash rest.now) }
+fn classify_linked(rest: &[u8]) -> Option<(Category<'_>, &[u8])>
+    ensures { (s : Bytes) → drop 10 s ≡ rest.now → class_of result ≡ option_map (named s) (classify_linked rest.now (first_slash rest.now)) }
 {
-    let found = find_slash(rest);
-    match found {
-        Slash::At(i) => {
-            let full = Category::LinkedRef { name_len: i };
-            let pseudo = Category::LinkedPseudoRef { name_len: i };
-            let a = i + 1;
-            classify_below(&rest[a..], full, pseudo, 10 + a)
-        }
-        Slash::Nowhere => Class::Unclassified,
-    }
+    let i = find_slash(rest)?;
+    let name = &rest[..i];
+    let full = Category::LinkedRef { name };
+    let pseudo = Category::LinkedPseudoRef { name };
+    classify_below(&rest[i + 1..], full, pseudo)
 }
 
-// The category of a name, malformed or not.
-pub fn category_and_short_name(s: &[u8]) -> Class
-    ensures { class_of s.now result ≡ classify s.now }
+// What stands behind refs/.
+fn classify_refs(rest: &[u8]) -> Option<(Category<'_>, &[u8])>
+    ensures { class_of result ≡ category_and_short_name (bytes "refs/" ++ rest.now) }
 {
-    if starts_with(s, b"refs/tags/") {
-        return classified(Category::Tag, 10);
+    if let Some(short) = rest.strip_prefix(b"tags/") {
+        return Some((Category::Tag, short));
     }
-    if starts_with(s, b"refs/heads/") {
-        return classified(Category::LocalBranch, 11);
+    if let Some(short) = rest.strip_prefix(b"heads/") {
+        return Some((Category::LocalBranch, short));
     }
-    if starts_with(s, b"refs/remotes/") {
-        return classified(Category::RemoteBranch, 13);
+    if let Some(short) = rest.strip_prefix(b"remotes/") {
+        return Some((Category::RemoteBranch, short));
     }
-    if starts_with(s, b"refs/notes/") {
-        return classified(Category::Note, 5);
+    if starts_with(rest, b"notes/") {
+        return Some((Category::Note, rest));
     }
-    if starts_with(s, b"refs/bisect/") {
-        return classified(Category::Bisect, 5);
+    if starts_with(rest, b"bisect/") {
+        return Some((Category::Bisect, rest));
     }
-    if starts_with(s, b"refs/worktree/") {
-        return classified(Category::WorktreePrivate, 5);
+    if starts_with(rest, b"worktree/") {
+        return Some((Category::WorktreePrivate, rest));
     }
-    if starts_with(s, b"refs/rewritten/") {
-        return classified(Category::Rewritten, 5);
+    if starts_with(rest, b"rewritten/") {
+        return Some((Category::Rewritten, rest));
+    }
+    None
+}
+
+// The category of a name, malformed or not, and what is left when that category's part is taken off.
+pub fn category_and_short_name(s: &[u8]) -> Option<(Category<'_>, &[u8])>
+    ensures { class_of result ≡ category_and_short_name s.now }
+{
+    if let Some(rest) = s.strip_prefix(b"refs/") {
+        return classify_refs(rest);
     }
     if is_pseudo_ref(s) {
-        return classified(Category::PseudoRef, 0);
+        return Some((Category::PseudoRef, s));
     }
-    if starts_with(s, b"main-worktree/") {
-        return classify_below(&s[14..], Category::MainRef, Category::MainPseudoRef, 14);
+    if let Some(rest) = s.strip_prefix(b"main-worktree/") {
+        return classify_below(rest, Category::MainRef, Category::MainPseudoRef);
     }
-    if starts_with(s, b"worktrees/") {
-        return classify_linked(&s[10..]);
+    if let Some(rest) = s.strip_prefix(b"worktrees/") {
+        return classify_linked(rest);
     }
-    Class::Unclassified
-}
-
-// Is the category private to its worktree? The worktree's name plays no part.
-pub fn is_worktree_private(c: Category) -> bool
-    ensures { (w : ℕ → Bytes) → result ≡ private_category (Some (category_with w c)) }
-{
-    match c {
-        Category::Tag => false,
-        Category::LocalBranch => false,
-        Category::RemoteBranch => false,
-        Category::Note => false,
-        Category::PseudoRef => true,
-        Category::MainPseudoRef => true,
-        Category::MainRef => false,
-        Category::LinkedPseudoRef { name_len: _ } => true,
-        Category::LinkedRef { name_len: _ } => false,
-        Category::Bisect => true,
-        Category::Rewritten => true,
-        Category::WorktreePrivate => true,
-    }
+    None
 }
 
 // Is the name private to its worktree?
+#[tactic(auto, using(crate::proofs::Placed::private_class, crate::proofs::Placed::private_none))]
 pub fn is_private(s: &[u8]) -> bool
     ensures { result ≡ is_private s.now }
 {
-    let k = category_and_short_name(s);
-    match k {
-        Class::As { category, off: _ } => is_worktree_private(category),
-        Class::Unclassified => false,
+    match category_and_short_name(s) {
+        Some((category, _)) => category.is_worktree_private(),
+        None => false,
     }
 }
 
 // The name without what its category takes off.
+#[tactic(auto, using(crate::proofs::Placed::short_class, crate::proofs::Placed::short_none))]
 pub fn short_name(s: &[u8]) -> &[u8]
     ensures { result.now ≡ short_name s.now }
 {
-    let k = category_and_short_name(s);
-    match k {
-        Class::As { category: _, off } => &s[off..],
-        Class::Unclassified => s,
+    match category_and_short_name(s) {
+        Some((_, short)) => short,
+        None => s,
     }
 }
 
 // Whether s is a full name: refused 3 over 250 bytes, then 4 if it is not complete.
-pub fn check_full(s: &[u8]) -> Verdict
+pub fn check_full(s: &[u8]) -> Result<(), Refusal>
     ensures { check_of result ≡ full_check s.now }
 {
     if s.len() > LONGEST {
-        return Verdict::Refused(Refusal::TooLong);
+        return Err(Refusal::TooLong);
     }
     if !complete(s) {
-        return Verdict::Refused(Refusal::Malformed);
+        return Err(Refusal::Malformed);
     }
-    Verdict::Accepted
+    Ok(())
 }
 
 // The full name s, checked.
-pub fn full_name(s: &[u8]) -> CheckedFull
-    ensures { checked_full result ≡ full_checked s.now }
+#[tactic(auto, using(crate::proofs::Rows::cut_full), unfolding(crate::specs::Means::full_checked))]
+pub fn full_name(s: &[u8]) -> Result<FullName, Refusal>
+    ensures { checked_of full_content result ≡ full_checked s.now }
 {
-    let verdict = check_full(s);
-    let n = cut_name(s);
-    let name = FullName(n);
-    CheckedFull { verdict, name }
+    check_full(s)?;
+    Ok(FullName(Name::cut(s)))
 }
 
-// Puts p behind the prefix, unless it begins with it already.
-fn put_prefixed(out: &mut [u8; LONGEST], prefix: &[u8], p: &[u8]) -> Filled
-    ensures { filled out.new result ≡ if_fits (behind prefix.now p.now) }
+// A name of p behind the prefix, unless it begins with it already.
+fn behind(prefix: &[u8], p: &[u8]) -> Option<Name>
+    ensures { made_name result ≡ if_fits (behind prefix.now p.now) }
 {
     if starts_with(p, prefix) {
-        return put_joined(out, b"", b"", p);
+        return Name::joined(b"", b"", p);
     }
-    put_joined(out, b"", prefix, p)
-}
-
-// The same of a category that keeps its word, which stands behind refs/ in the prefix: the short name has it or not.
-fn put_kept(out: &mut [u8; LONGEST], prefix: &[u8], short: &[u8]) -> Filled
-    ensures { filled out.new result ≡ if_fits (behind prefix.now (strip (strip (bytes "refs/") prefix.now) short.now)) }
-{
-    let word = without(prefix, b"refs/");
-    put_prefixed(out, prefix, without(short, word))
+    Name::joined(b"", prefix, p)
 }
 
 // The same with the prefix of a linked worktree's names.
-fn put_linked(out: &mut [u8; LONGEST], worktree: &[u8], p: &[u8]) -> Filled
-    ensures { filled out.new result ≡ if_fits (behind (bytes "worktrees/" ++ worktree.now ++ bytes "/") p.now) }
+#[tactic(auto, using(crate::proofs::Held::behind_not))]
+fn behind_worktree(worktree: &[u8], p: &[u8]) -> Option<Name>
+    ensures { made_name result ≡ if_fits (behind (bytes "worktrees/" ++ worktree.now ++ bytes "/") p.now) }
 {
-    let mut prefix: [u8; LONGEST] = [0; LONGEST];
-    let f = put_joined(&mut prefix, b"worktrees/", worktree, b"/");
-    match f {
-        Filled::To(len) => put_prefixed(out, front(&prefix, len), p),
-        Filled::TooLong => Filled::TooLong,
-    }
+    let prefix = Name::joined(b"worktrees/", worktree, b"/")?;
+    behind(prefix.as_bytes(), p)
 }
 
-// Puts the full name of a short one, where it fits.
-fn put_full(out: &mut [u8; LONGEST], category: Category, worktree: &[u8], short: &[u8]) -> Filled
-    ensures { filled out.new result ≡ if_fits (full_of (category_with (λ k. worktree.now) category) short.now) }
-{
-    match category {
-        Category::Tag => put_prefixed(out, b"refs/tags/", short),
-        Category::LocalBranch => put_prefixed(out, b"refs/heads/", short),
-        Category::RemoteBranch => put_prefixed(out, b"refs/remotes/", short),
-        Category::Note => put_kept(out, b"refs/notes/", short),
-        Category::PseudoRef => put_prefixed(out, b"", short),
-        Category::MainPseudoRef => put_prefixed(out, b"main-worktree/", short),
-        Category::MainRef => put_prefixed(out, b"main-worktree/refs/", without(short, b"refs/")),
-        Category::LinkedPseudoRef { name_len: _ } => put_linked(out, worktree, short),
-        Category::LinkedRef { name_len: _ } => put_linked(out, worktree, short),
-        Category::Bisect => put_kept(out, b"refs/bisect/", short),
-        Category::Rewritten => put_kept(out, b"refs/rewritten/", short),
-        Category::WorktreePrivate => put_kept(out, b"refs/worktree/", short),
-    }
-}
-
-fn too_long() -> CheckedFull
-    ensures { checked_full result ≡ refuses 3 }
-{
-    let e = empty();
-    let verdict = Verdict::Refused(Refusal::TooLong);
-    let name = FullName(e);
-    CheckedFull { verdict, name }
-}
-
-// The full name of a short one: refused 3 where either is over 250 bytes, then 4 if it is not complete. The linked
-// categories take the worktree's name from `worktree`, and the others ignore it.
-pub fn to_full_name(category: Category, worktree: &[u8], short: &[u8]) -> CheckedFull
-    ensures { checked_full result ≡ to_full_name (category_with (λ k. worktree.now) category) short.now }
-{
-    let mut out: [u8; LONGEST] = [0; LONGEST];
-    let f = put_full(&mut out, category, worktree, short);
-    match f {
-        Filled::To(len) => {
-            if short.len() > LONGEST {
-                return too_long();
-            }
-            full_name(front(&out, len))
+impl Category<'_> {
+    // Is the category private to its worktree? The worktree's name plays no part.
+    pub fn is_worktree_private(self) -> bool
+        ensures { result ≡ private_category (Some (category_of self.entry)) }
+    {
+        match self {
+            Category::PseudoRef | Category::MainPseudoRef => true,
+            Category::LinkedPseudoRef { .. } => true,
+            Category::Bisect | Category::Rewritten | Category::WorktreePrivate => true,
+            Category::Tag | Category::LocalBranch | Category::RemoteBranch | Category::Note =>
+                false,
+            Category::MainRef | Category::LinkedRef { .. } => false,
         }
-        Filled::TooLong => too_long(),
+    }
+
+    // A name of the short one's full name, where it fits. Some categories keep their word in the short name.
+    fn full_of(self, short: &[u8]) -> Option<Name>
+        ensures { made_name result ≡ if_fits (full_of (category_of self.entry) short.now) }
+    {
+        match self {
+            Category::Tag => behind(b"refs/tags/", short),
+            Category::LocalBranch => behind(b"refs/heads/", short),
+            Category::RemoteBranch => behind(b"refs/remotes/", short),
+            Category::Note => behind(b"refs/notes/", without(short, b"notes/")),
+            Category::PseudoRef => behind(b"", short),
+            Category::MainPseudoRef => behind(b"main-worktree/", short),
+            Category::MainRef => behind(b"main-worktree/refs/", without(short, b"refs/")),
+            Category::LinkedPseudoRef { name } => behind_worktree(name, short),
+            Category::LinkedRef { name } => behind_worktree(name, short),
+            Category::Bisect => behind(b"refs/bisect/", without(short, b"bisect/")),
+            Category::Rewritten => behind(b"refs/rewritten/", without(short, b"rewritten/")),
+            Category::WorktreePrivate => behind(b"refs/worktree/", without(short, b"worktree/")),
+        }
+    }
+
+    // The full name of a short one: refused 3 where either is over 250 bytes, then 4 if it is not complete.
+    pub fn to_full_name(self, short: &[u8]) -> Result<FullName, Refusal>
+        ensures { checked_of full_content result ≡ to_full_name (category_of self.entry) short.now }
+    {
+        match self.full_of(short) {
+            Some(name) if short.len() <= LONGEST => {
+                check_full(name.as_bytes())?;
+                Ok(FullName(name))
+            }
+            _ => Err(Refusal::TooLong),
+        }
     }
 }

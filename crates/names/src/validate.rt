@@ -4,24 +4,19 @@ ghost use Rattle.names.specs.Bytes.{slash};
 ghost use Rattle.names.specs.WellFormed.{allowed, well_formed, complete};
 ghost use Rattle.names.specs.Promises.{rules_after, fits_after, lock_ends, before, plain, sure, all_sure};
 
-use crate::bytes::{contains, in_range, starts_with};
+use crate::bytes::{contains, equal, in_range, starts_with};
 use crate::name::is_pseudo_ref;
 
 // No byte below 32, no 127, space, ~ ^ : ? * [ or backslash.
+#[tactic(auto, using(crate::proofs::ByteRules::allowed_is))]
 fn allowed_byte(b: u8) -> bool
     ensures { result ≡ allowed b }
 {
-    if b < 32 {
-        return false;
-    }
-    match b {
-        127 | b'\\' => false,
-        b' ' | b'~' | b'^' | b':' | b'?' | b'*' | b'[' => false,
-        _ => true,
-    }
+    32 <= b && !b"\x7f\\ ~^:?*[".contains(&b)
 }
 
 // Letters, digits and the like, of which most names are made: none breaks a rule, whatever stands before and behind it.
+// Kept: `matches!` with ranges is not judged eight bytes at a time: well_formed then takes 3 times as long, and 6 times for 250 bytes.
 fn is_plain(b: u8) -> bool
     ensures { result ≡ plain b }
 {
@@ -29,48 +24,34 @@ fn is_plain(b: u8) -> bool
 }
 
 // Does t begin with a .lock that ends a component?
+#[tactic(auto, using(crate::proofs::ByteRules::lock_is, crate::proofs::Prefix::starts_length))]
 fn lock_ends(t: &[u8]) -> bool
     ensures { result ≡ lock_ends t.now }
 {
-    if !starts_with(t, b".lock") {
-        return false;
-    }
-    if t.len() == 5 {
-        return true;
-    }
-    t[5] == b'/'
+    starts_with(t, b".lock") && (t.len() == 5 || t[5] == b'/')
 }
 
 // Does a dot that t begins with fit behind p? It begins no component, follows no dot, is not the last byte and begins no
 // .lock that ends a component.
+#[tactic(auto, using(crate::proofs::ByteRules::dot_at))]
 fn dot_fits(p: u8, t: &[u8]) -> bool
     requires { (0 < length t.now) × (get_or t.now 0 0 ≡ 46) }
     ensures { result ≡ fits_after p t.now }
 {
-    if p == b'/' {
-        return false;
-    }
-    if p == b'.' {
-        return false;
-    }
-    if t.len() == 1 {
-        return false;
-    }
-    !lock_ends(t)
+    p != b'/' && p != b'.' && t.len() != 1 && !lock_ends(t)
 }
 
 // Does a slash that t begins with fit behind p? It follows no slash and is not the last byte.
+#[tactic(auto, using(crate::proofs::ByteRules::slash_at))]
 fn slash_fits(p: u8, t: &[u8]) -> bool
     requires { (0 < length t.now) × (get_or t.now 0 0 ≡ slash) }
     ensures { result ≡ fits_after p t.now }
 {
-    if p == b'/' {
-        return false;
-    }
-    t.len() != 1
+    p != b'/' && t.len() != 1
 }
 
 // Does the first byte of t fit behind p? Most bytes are plain, so that is asked first.
+#[tactic(auto, using(crate::proofs::ByteRules::plain_first, crate::proofs::ByteRules::brace_at, crate::proofs::ByteRules::other_at))]
 fn fits_after(p: u8, t: &[u8]) -> bool
     requires { 0 < length t.now }
     ensures { result ≡ fits_after p t.now }
@@ -100,10 +81,8 @@ fn eight_sure(s: &[u8], i: usize) -> bool
     ensures { result ≡ all_sure s.now i 8 }
 {
     let mut sure = true;
-    let mut j = 0;
-    while j < 8 {
+    for j in 0..8 {
         sure = sure & is_sure(s[i + j], s[i + j + 1], s[i + j + 2]);
-        j += 1;
     }
     sure
 }
@@ -112,20 +91,17 @@ fn eight_sure(s: &[u8], i: usize) -> bool
 fn sure_front(s: &[u8]) -> usize
     ensures { (result ≤ length s.now) × (rules_after slash s.now ≡ rules_after (before s.now result) (drop result s.now)) }
 {
-    if s.len() < 10 {
+    if s.len() < 10 || !is_plain(s[0]) {
         return 0;
     }
-    if !is_plain(s[0]) {
-        return 0;
-    }
-    let mut i = 0;
-    while 10 <= s.len() - i {
+    let mut front = 1;
+    for i in (0..s.len() - 9).step_by(8) {
         if !eight_sure(s, i) {
-            return i + 1;
+            return front;
         }
-        i += 8;
+        front = i + 9;
     }
-    i + 1
+    front
 }
 
 // The byte before place i. The first stands where a component begins, as if a slash were before it.
@@ -133,54 +109,37 @@ fn byte_before(s: &[u8], i: usize) -> u8
     requires { i ≤ length s.now }
     ensures { result ≡ before s.now i }
 {
-    if i == 0 {
-        return b'/';
-    }
-    s[i - 1]
+    if i == 0 { b'/' } else { s[i - 1] }
 }
 
 // Does every byte fit behind the one before?
 fn all_fit(s: &[u8]) -> bool
     ensures { result ≡ rules_after slash s.now }
 {
-    let mut i = sure_front(s);
-    let mut p = byte_before(s, i);
-    while i < s.len() {
+    let start = sure_front(s);
+    let mut p = byte_before(s, start);
+    for i in start..s.len() {
         if !fits_after(p, &s[i..]) {
             return false;
         }
         p = s[i];
-        i += 1;
     }
     true
 }
 
 // The rules in one pass, since every record of a packed region is asked. What is handed on is a part, though it is the whole:
 // a slice that is handed on as it came is not passed in registers.
+#[tactic(auto, using(crate::proofs::ByteRules::formed_is, crate::proofs::Parts::whole_part))]
 pub fn well_formed(s: &[u8]) -> bool
     ensures { result ≡ well_formed s.now }
 {
-    if s.len() == 0 {
-        return false;
-    }
-    if !all_fit(&s[0..]) {
-        return false;
-    }
-    if s.len() != 1 {
-        return true;
-    }
-    s[0] != b'@'
+    !s.is_empty() && all_fit(&s[0..]) && !equal(s, b"@")
 }
 
 // Well formed and, besides, holding a slash or made only of A to Z and underscore.
+#[tactic(auto, unfolding(crate::specs::WellFormed::complete))]
 pub fn complete(s: &[u8]) -> bool
     ensures { result ≡ complete s.now }
 {
-    if !well_formed(s) {
-        return false;
-    }
-    if contains(s, b"/") {
-        return true;
-    }
-    is_pseudo_ref(s)
+    well_formed(s) && (contains(s, b"/") || is_pseudo_ref(s))
 }

@@ -1,2 +1,3 @@
 -- What is known of writes.
 pub mod Pastes
+pub mod Puts

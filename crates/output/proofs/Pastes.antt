@@ -1,11 +1,17 @@
 -- Writes one behind the other, over each other, and to the front.
-use mathlib.Core.Path.{◌≡◌, refl, ap, sym}
+use mathlib.Core.Path.{◌≡◌, refl, ap, sym, ◌∙◌}
+use mathlib.Core.Bool.{Bool, true, false}
 use Prim.Native.Nat.{ℕ, zero, suc, ◌+◌, ◌-◌, ◌≤◌, ◌<◌}
 use mathlib.Core.List.{List, [], ◌∷◌, ◌++◌}
-use native.Mathlib.Numerals.{add-one}
 use native.Mathlib.Omega.{arith}
-use lib.ListN.{length, take, drop, set, replicate, length-replicate, get_or-replicate}
-use lib.Seq.{paste, paste-zero, paste-suc, take-length, take-paste}
+use lib.ListN.{length, take, drop, replicate, length-take, length-drop, length-replicate}
+use lib.Seq.{paste, paste-zero, take-length, take-paste, take-take}
+use lib.Dec.{leb}
+use borrow.Author.Tests.{leb-true, leb-false}
+use borrow.Rule.Slice.PartMut.{put_mid}
+use Rattle.std.specs.Prelude.{min}
+use Rattle.std.proofs.lemmas.List.{take-replicate}
+use Rattle.std.proofs.lemmas.Slice.{put_mid-paste}
 use Rattle.output.specs.Pasted.{pasted, Put}
 
 pub pasted_length : (b : List ℕ) (at : ℕ) (s : List ℕ) → length (pasted b at s) ≡ length b
@@ -79,18 +85,39 @@ copied (x ∷ b) (suc at) s n h k e =
     let m : suc at + n ≡ suc (at + n) = omega arith in
     rw m (ap (λ (l : List ℕ). x ∷ l) (copied b at s n (omega (arith, h)) k (λ (l : n < length s). omega (arith, e l))))
 
--- one zero more, and all that find room
-pub zero_more : (b : List ℕ) (at k i : ℕ) → at + i < length b → i < k → set (paste b at (replicate k 0) i) (at + i) 0 ≡ paste b at (replicate k 0) (i + 1)
-zero_more b at k i h l =
-    let z : List ℕ = replicate k 0 in
-    let inside : i < length z = omega (arith, l, length-replicate {A = ℕ} k 0) in
-    rw add-one (rw (get_or-replicate {A = ℕ} k i 0 0 l) at (paste-suc b at z i 0 h inside))
+-- nothing is written at or behind the end
+pasted_past : (b : List ℕ) (at : ℕ) (s : List ℕ) → length b ≤ at → pasted b at s ≡ b
+unfolding pasted
+pasted_past [] at s h = refl
+pasted_past (x ∷ b) zero s h = absurd (omega (arith, h))
+pasted_past (x ∷ b) (suc at) s h = ap (λ (l : List ℕ). x ∷ l) (pasted_past b at s (omega (arith, h)))
 
-pub zeroed : (b : List ℕ) (at k n : ℕ) → n ≤ length b - at → n ≤ k → (n < k → length b ≤ at + n) → paste b at (replicate k 0) n ≡ pasted b at (replicate k 0)
-zeroed b at k n h l e =
-    let z : List ℕ = replicate k 0 in
-    let size : length z ≡ k = length-replicate {A = ℕ} k 0 in
-    copied b at z n h (omega (arith, l, size)) (λ (m : n < length z). e (omega (arith, m, size)))
+-- as many bytes as find room, from a place on that is no further than the end: a loan of this part that holds them then
+module _ (b : List ℕ) (at : ℕ) (s : List ℕ) (start n : ℕ) (e : start ≡ min at (length b)) (f : n ≡ min (length s) (length b - start)) where
+  roomy : paste b start s n ≡ pasted b at s
+  roomy = go (leb at (length b)) refl
+    where
+      go : (t : Bool) → leb at (length b) ≡ t → paste b start s n ≡ pasted b at s
+      go true t =
+          let h : at ≤ length b = leb-true at (length b) t in
+          let k : start ≡ at = omega arith in
+          rw k (copied b at s n (omega arith) (omega arith) (λ (l : n < length s). omega arith))
+      go false t =
+          let h : length b < at = leb-false at (length b) t in
+          let k : n ≡ 0 = omega arith in
+          rw k (sym (paste-zero b start s) ∙ sym (pasted_past b at s (omega arith)))
+
+  pub lent_part : (k : ℕ) (part : List ℕ) → k ≡ n → part ≡ take n s → put_mid start k b part ≡ pasted b at s
+  lent_part k part l p =
+      put_mid-paste start k b part (take n s) n p (sym l) (simp length-take (omega arith))
+      ∙ rw (take-take n n s (omega arith)) roomy
+
+-- the same where the part was filled with zeros
+pub lent_zeros : (b : List ℕ) (at l start n : ℕ) → start ≡ min at (length b) → n ≡ min l (length b - start)
+    → (k : ℕ) (part : List ℕ) → k ≡ n → part ≡ replicate (length (take k (drop start b))) 0 → put_mid start k b part ≡ pasted b at (replicate l 0)
+lent_zeros b at l start n e f k part h p =
+    let whole : length (take k (drop start b)) ≡ n = simp (length-take, length-drop) (omega arith) in
+    lent_part b at (replicate l 0) start n e (rw length-replicate f) k part h (p ∙ rw (whole, take-replicate {X = ℕ} n l 0 (omega arith)))
 
 -- what has room stands behind what lay before it
 pasted_behind : (b : List ℕ) (at : ℕ) (s : List ℕ) → at + length s ≤ length b → take (at + length s) (pasted b at s) ≡ take at b ++ s

@@ -15,63 +15,54 @@ use Rattle.blocks.proofs.Sorted.{Sorted, sorted_drop}
 use Rattle.blocks.proofs.Walks.{length_entries}
 use Rattle.blocks.proofs.Entries.{entries_at}
 use Rattle.refs.specs.Answer.{block_of}
-use Rattle.refs.specs.Promises.{Flawless, IndexOf}
-use Rattle.refs.specs.declared.find.Index.TheVariants.{At, Nothing}
-use Rattle.refs.proofs.Regions.{below, here, above, region_sorted, block_named}
+use Rattle.refs.specs.Whole.{indexed}
+use Rattle.refs.proofs.Regions.{Flawless, below, here, above, region_sorted, block_named}
 
-pub record Bracket (p s : Bytes) (lo hi : ℕ) : Type 0 where
+pub record Bracket (r : Region) (p s : Bytes) (lo hi : ℕ) : Type 0 where
   pub lo_le : lo ≤ hi
   pub hi_le : hi ≤ block_count s
-  pub low : (r : Region) → Flawless r s → block_of p (entries id_width r s) ≡ block_of p (drop lo (entries id_width r s))
-  pub high : (r : Region) → Flawless r s → block_of p (drop hi (entries id_width r s)) ≡ None
+  pub low : block_of p (entries id_width r s) ≡ block_of p (drop lo (entries id_width r s))
+  pub high : block_of p (drop hi (entries id_width r s)) ≡ None
 
-module _ (p s : Bytes) where
-  past_end : (r : Region) → block_of p (drop (block_count s) (entries id_width r s)) ≡ None
+module _ (r : Region) (p s : Bytes) (f : Flawless r s) where
+  past_end : block_of p (drop (block_count s) (entries id_width r s)) ≡ None
   unfolding block_of
-  past_end r =
+  past_end =
       let l : length (entries id_width r s) ≤ block_count s = omega (arith, length_entries id_width r s) in
       rw (drop_of_length-le (entries id_width r s) l)
 
-  pub bracket_start : Bracket p s 0 (block_count s)
-  bracket_start = record { lo_le = omega arith; hi_le = omega arith; low = λ r f. refl; high = λ r f. past_end r }
+  pub bracket_start : Bracket r p s 0 (block_count s)
+  bracket_start = record { lo_le = omega arith; hi_le = omega arith; low = refl; high = past_end }
 
-  module _ (lo hi mid : ℕ) (b : Bracket p s lo hi) (l : lo ≤ mid) (h : mid < hi) where
+  module _ (lo hi mid : ℕ) (b : Bracket r p s lo hi) (l : lo ≤ mid) (h : mid < hi) where
     within : mid < block_count s
     within = omega (arith, b.hi_le)
 
-    there : (r : Region) → Flawless r s → name_of (entry id_width r (block_at s mid)) ≡ Some (name_in s mid)
-    there r f = block_named r s f mid within ∙ rw (lt-ltb mid (block_count s) within)
+    there : name_of (entry id_width r (block_at s mid)) ≡ Some (name_in s mid)
+    there = block_named r s f mid within ∙ rw (lt-ltb mid (block_count s) within)
 
-    pub bracket_up : order (name_in s mid) p ≡ Ordering.lt → Bracket p s (mid + 1) hi
+    pub bracket_up : order (name_in s mid) p ≡ Ordering.lt → Bracket r p s (mid + 1) hi
     bracket_up e =
         record {
           lo_le = omega arith;
           hi_le = b.hi_le;
-          low = λ r f. below p (name_in s mid) (region_sorted r s f) mid _ _ (entries_at id_width r s mid within) (there r f) e;
+          low = below p (name_in s mid) (region_sorted r s f) mid _ _ (entries_at id_width r s mid within) there e;
           high = b.high;
         }
 
-    pub bracket_down : order (name_in s mid) p ≡ Ordering.gt → Bracket p s lo mid
+    pub bracket_down : order (name_in s mid) p ≡ Ordering.gt → Bracket r p s lo mid
     bracket_down e =
         record {
           lo_le = l;
           hi_le = omega (arith, b.hi_le);
           low = b.low;
-          high = over;
+          high = let t : Sorted None (drop mid (entries id_width r s)) = sorted_drop mid (region_sorted r s f) in
+              rw (entries_at id_width r s mid within) (above p (name_in s mid) (rw (entries_at id_width r s mid within) at t) there e);
         }
-      where
-        over : (r : Region) → Flawless r s → block_of p (drop mid (entries id_width r s)) ≡ None
-        over r f =
-            let t : Sorted None (drop mid (entries id_width r s)) = sorted_drop mid (region_sorted r s f) in
-            rw (entries_at id_width r s mid within) (above p (name_in s mid) (rw (entries_at id_width r s mid within) at t) (there r f) e)
 
-    pub bracket_found : order (name_in s mid) p ≡ Ordering.eq → IndexOf p s (At mid)
+    pub bracket_found : order (name_in s mid) p ≡ Ordering.eq → indexed (Some mid) (entries id_width r s) ≡ block_of p (entries id_width r s)
     bracket_found e =
-        record {
-          is = λ r f. rw (entries_at id_width r s mid within) (here p (region_sorted r s f) mid _ _ (entries_at id_width r s mid within) (there r f ∙ ap Some (order_eq (name_in s mid) p e)));
-          inside = within;
-        }
+        rw (entries_at id_width r s mid within) (here p (region_sorted r s f) mid _ _ (entries_at id_width r s mid within) (there ∙ ap Some (order_eq (name_in s mid) p e)))
 
-  pub bracket_none : (lo hi : ℕ) → Bracket p s lo hi → hi ≤ lo → IndexOf p s Nothing
-  bracket_none lo hi b h =
-      record { is = λ r f. let q : lo ≡ hi = omega (arith, b.lo_le) in sym (b.low r f ∙ rw q (b.high r f)); inside = tt }
+  pub bracket_none : (lo hi : ℕ) → Bracket r p s lo hi → hi ≤ lo → None ≡ block_of p (entries id_width r s)
+  bracket_none lo hi b h = let q : lo ≡ hi = omega (arith, b.lo_le) in sym (b.low ∙ rw q b.high)

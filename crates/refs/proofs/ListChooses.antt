@@ -1,147 +1,114 @@
 -- The choice between what waits in the three regions, in the code's order.
-use mathlib.Core.Path.{◌≡◌, refl, sym, ◌∙◌}
-use mathlib.Core.Bool.{Bool, true, false, not, true≢false, false≢true}
-use Rattle.std.specs.Prelude.{Option, None, Some}
-use Prim.Native.Nat.{ℕ, Ordering}
-use borrow.Author.Tests.{not-true, not-false}
-use lib.Dec.{compare_is_eq}
-use Rattle.names.specs.Bytes.{Bytes, order, same}
+use mathlib.Core.Path.{◌≡◌, refl, sym, ap, ◌∙◌}
+use mathlib.Core.Bool.{Bool, true, false}
+use mathlib.Core.List.{[]}
+use Prim.Native.Nat.{ℕ}
+use Rattle.std.specs.Prelude.{Option, None, Some, is_some, if◌then◌else◌}
+use Rattle.std.specs.Option.{unwrap_or, option_or}
+use Rattle.names.specs.Bytes.{Bytes}
+use Rattle.blocks.specs.Entry.{name_of}
+use Rattle.blocks.specs.Means.{id_width, region_of}
+use Rattle.blocks.specs.Snapshot.{Snapshot, store}
 use Rattle.blocks.specs.Block.{Region}
-use Rattle.blocks.specs.Means.{name_in}
-use Rattle.refs.specs.Answer.{Answer}
-use Rattle.refs.specs.Listing.{Waiting, error, Offer, smaller, least, if_same, past, Positions, Move, error_else, by_name, choose}
-use Rattle.refs.specs.ListPromises.{answer_at, waiting_with, waiting_of, is_fault, is_name, not_above, offered}
-use Rattle.refs.specs.declared.overlay_iter.Left.{Left}
-use Rattle.refs.specs.declared.overlay_iter.Left.TheVariants as left
+use Rattle.blocks.specs.declared.block.Region.TheVariants as code
+use Rattle.blocks.proofs.Stores.{entries_if_any, store_is}
+use Rattle.blocks.specs.Means.{entry_as}
+use Rattle.refs.specs.Answer.{nothing}
+use Rattle.refs.specs.View.{scope, view}
+use Rattle.refs.specs.Listing.{Waiting, error, least, past, Positions, Move, error_else, by_name, choose, move}
+use Rattle.refs.specs.ListPromises.{own_name, own_answer, waiting_with, waiting_of, error_of, offer_of, StandsIn, moved_in, waits_in}
 use Rattle.refs.specs.declared.overlay_iter.Waiting as waiting
 
-smaller_first : (o : Ordering) (x y : Offer) → not_above o ≡ true → smaller o x y ≡ x
-smaller_first Ordering.lt x y h = refl
-smaller_first Ordering.eq x y h = refl
-smaller_first Ordering.gt x y h = absurd (false≢true h)
+-- ---- an error waits, or none
 
-smaller_second : (o : Ordering) (x y : Offer) → not_above o ≡ false → smaller o x y ≡ y
-smaller_second Ordering.lt x y h = absurd (true≢false h)
-smaller_second Ordering.eq x y h = absurd (true≢false h)
-smaller_second Ordering.gt x y h = refl
+is_there : (w : Option waiting.Waiting) (x : waiting.Waiting) → Some x ≡ error_of w → w ≡ Some x
+is_there None x h = cc
+is_there (Some w) x h = go (name_of (entry_as w.found.entry)) h
+  where
+    go : (n : Option Bytes) → Some x ≡ (if is_some n then None else Some w) → Some w ≡ Some x
+    go None h = sym h
+    go (Some n) h = cc
 
-same_next : (o : Ordering) (next i : ℕ) → compare_is_eq o ≡ true → if_same o next i ≡ next
-same_next Ordering.lt next i h = absurd (false≢true h)
-same_next Ordering.eq next i h = refl
-same_next Ordering.gt next i h = absurd (false≢true h)
+module _ (e : Bytes) where
+  error_there : (w : Option waiting.Waiting) (x : waiting.Waiting) → Some x ≡ error_of w → waiting_of e w ≡ error (own_answer e (entry_as x.found.entry)) x.next
+  error_there None x h = cc
+  error_there (Some w) x h = go (name_of (entry_as w.found.entry)) h
+    where
+      go : (n : Option Bytes) → Some x ≡ (if is_some n then None else Some w) → waiting_with n (own_answer e (entry_as w.found.entry)) w.next ≡ error (own_answer e (entry_as x.found.entry)) x.next
+      go None h = let q : w ≡ x = cc in rw q
+      go (Some n) h = cc
 
-other_stays : (o : Ordering) (next i : ℕ) → compare_is_eq o ≡ false → if_same o next i ≡ i
-other_stays Ordering.lt next i h = refl
-other_stays Ordering.eq next i h = absurd (true≢false h)
-other_stays Ordering.gt next i h = refl
+  abbrev NoError : Waiting → Type 0
+  NoError w = (to : ℕ → Positions) (rest : Move) → error_else w to rest ≡ rest
 
--- no error waits
-abbrev pub NoError : Waiting → Type 0
-NoError w = (to : ℕ → Positions) (rest : Move) → error_else w to rest ≡ rest
+  no_error : (w : Option waiting.Waiting) → None ≡ error_of w → NoError (waiting_of e w)
+  no_error None h = λ to rest. refl
+  no_error (Some w) h = go (name_of (entry_as w.found.entry)) h
+    where
+      go : (n : Option Bytes) → None ≡ (if is_some n then None else Some w) → NoError (waiting_with n (own_answer e (entry_as w.found.entry)) w.next)
+      go None h to rest = cc
+      go (Some n) h to rest = refl
 
--- what waits in the region s, and a test b of it
-module _ (e : Bytes) (r : Region) (s : Bytes) (w : waiting.Waiting) (b : Bool) where
-  abbrev with_left : Left → Waiting
-  with_left l = waiting_with l (name_in s w.at) (answer_at e r s w.at) w.next
+  -- a name that waits, with nothing to compare
+  alone : (w : Option waiting.Waiting) → None ≡ error_of w → offer_of e w ≡ least (waiting_of e w) None
+  alone None h = refl
+  alone (Some w) h = go (name_of (entry_as w.found.entry)) h
+    where
+      go : (n : Option Bytes) → None ≡ (if is_some n then None else Some w) → Some (record { name = unwrap_or n []; answer = own_answer e (entry_as w.found.entry) }) ≡ least (waiting_with n (own_answer e (entry_as w.found.entry)) w.next) None
+      go None h = cc
+      go (Some n) h = refl
 
-  abbrev own : Offer
-  own = record { name = name_in s w.at; answer = answer_at e r s w.at }
+-- none of three errors waits
+pub none_waits : (w c p : Option waiting.Waiting) → None ≡ option_or (option_or (error_of p) (error_of c)) (error_of w) → (error_of w ≡ None) × (error_of c ≡ None) × (error_of p ≡ None)
+none_waits w c p h = go (error_of p) refl (error_of c) refl h
+  where
+    go : (a : Option waiting.Waiting) → error_of p ≡ a → (b : Option waiting.Waiting) → error_of c ≡ b → None ≡ option_or (option_or a b) (error_of w) → (error_of w ≡ None) × (error_of c ≡ None) × (error_of p ≡ None)
+    go (Some y) i b j h = cc
+    go None i (Some y) j h = cc
+    go None i None j h = (sym h, j, i)
 
-  module _ (is : b ≡ is_name w.left) where
-    -- ---- no name waits
+-- ---- a step of the positions, by what waits in each region
 
-    module _ (no : not b ≡ true) where
-      left_no : is_name w.left ≡ false
-      left_no = sym is ∙ not-true b no
+module _ (s : Snapshot) (e : Bytes) (at : Positions) (w c p : Option waiting.Waiting) (hw : waiting_of e w ≡ waits_in Region.worktree e s at) (hc : waiting_of e c ≡ waits_in Region.common e s at) (hp : waiting_of e p ≡ waits_in Region.packed e s at) where
+  abbrev moved : Move
+  moved = move (view id_width (scope e)) (store id_width s) at
 
-      pub least_none : (q : Option Offer) → q ≡ least (waiting_of e r s w) q
-      least_none q = go w.left left_no
-        where
-          go : (l : Left) → is_name l ≡ false → q ≡ least (with_left l) q
-          go left.Nothing h = refl
-          go left.Error h = refl
-          go left.Name h = absurd (true≢false h)
+  chosen : moved ≡ choose (waiting_of e w) (waiting_of e c) (waiting_of e p) at
+  unfolding move
+  chosen = rw (store_is id_width s, entries_if_any id_width Region.common s.common, hw, hc, hp)
 
-      pub past_none : (m : Bytes) (i : ℕ) → i ≡ past m (waiting_of e r s w) i
-      past_none m i = go w.left left_no
-        where
-          go : (l : Left) → is_name l ≡ false → i ≡ past m (with_left l) i
-          go left.Nothing h = refl
-          go left.Error h = refl
-          go left.Name h = absurd (true≢false h)
+  -- the first error is handed out
+  module _ (sw : StandsIn code.Worktree w) (sc : StandsIn code.Common c) (sp : StandsIn code.Packed p) (x : waiting.Waiting) where
+    abbrev Taken : Type 0
+    Taken = record { answer = own_answer e (entry_as x.found.entry); next = moved_in (region_of x.region) x.next at } ≡ moved
 
-    -- ---- a name waits
-
-    module _ (yes : not b ≡ false) where
-      name_is : w.left ≡ left.Name
-      name_is = go w.left (sym is ∙ not-false b yes)
-        where
-          go : (l : Left) → is_name l ≡ true → l ≡ left.Name
-          go left.Nothing h = absurd (false≢true h)
-          go left.Error h = absurd (false≢true h)
-          go left.Name h = refl
-
-      pub least_alone : (q : Option Offer) → q ≡ None → Some own ≡ least (waiting_of e r s w) q
-      least_alone q h = rw (h, name_is)
-
-      module _ (q : Option Offer) (o : Offer) (h : q ≡ Some o) (t : Bool) (above : t ≡ not_above (order (name_in s w.at) o.name)) where
-        pub least_first : t ≡ true → Some own ≡ least (waiting_of e r s w) q
-        least_first y = rw (h, name_is, smaller_first (order (name_in s w.at) o.name) own o (sym above ∙ y))
-
-        pub least_second : t ≡ false → Some o ≡ least (waiting_of e r s w) q
-        least_second y = rw (h, name_is, smaller_second (order (name_in s w.at) o.name) own o (sym above ∙ y))
-
-      module _ (m : Bytes) (i : ℕ) (t : Bool) (h : t ≡ same m (name_in s w.at)) where
-        pub past_same : t ≡ true → w.next ≡ past m (waiting_of e r s w) i
-        past_same y = rw (name_is, same_next (order m (name_in s w.at)) w.next i (sym h ∙ y))
-
-        pub past_other : t ≡ false → i ≡ past m (waiting_of e r s w) i
-        past_other y = rw (name_is, other_stays (order m (name_in s w.at)) w.next i (sym h ∙ y))
-
-  -- ---- an error waits, or none
-
-  module _ (is : b ≡ is_fault w.left) where
-    pub error_is : b ≡ true → waiting_of e r s w ≡ error (answer_at e r s w.at) w.next
-    error_is h = go w.left (sym is ∙ h)
+    pub take_error : Some x ≡ option_or (option_or (error_of p) (error_of c)) (error_of w) → Taken
+    take_error h = go (error_of p) refl (error_of c) refl h
       where
-        go : (l : Left) → is_fault l ≡ true → with_left l ≡ error (answer_at e r s w.at) w.next
-        go left.Nothing h = absurd (false≢true h)
-        go left.Error h = refl
-        go left.Name h = absurd (false≢true h)
+        go : (a : Option waiting.Waiting) → a ≡ error_of p → (b : Option waiting.Waiting) → b ≡ error_of c → Some x ≡ option_or (option_or a b) (error_of w) → Taken
+        go (Some y) i b j h =
+            let k : Some x ≡ error_of p = h ∙ i in
+            let r : x.region ≡ code.Packed = rw (is_there p x k) at sp in
+            rw r (sym (chosen ∙ rw (error_there e p x k)))
+        go None i (Some y) j h =
+            let k : Some x ≡ error_of c = h ∙ j in
+            let r : x.region ≡ code.Common = rw (is_there c x k) at sc in
+            rw r (sym (chosen ∙ rw (no_error e p i, error_there e c x k)))
+        go None i None j h =
+            let r : x.region ≡ code.Worktree = rw (is_there w x h) at sw in
+            rw r (sym (chosen ∙ rw (no_error e p i, no_error e c j, error_there e w x h)))
 
-    pub no_error : b ≡ false → NoError (waiting_of e r s w)
-    no_error h = go w.left (sym is ∙ h)
-      where
-        go : (l : Left) → is_fault l ≡ false → NoError (with_left l)
-        go left.Nothing h to rest = refl
-        go left.Error h to rest = absurd (true≢false h)
-        go left.Name h to rest = refl
+  -- no error waits: the least name is handed out
+  module _ (none : None ≡ option_or (option_or (error_of p) (error_of c)) (error_of w)) (q o : Option waiting.Waiting) (second : offer_of e q ≡ least (waiting_of e c) (offer_of e p)) (first : offer_of e o ≡ least (waiting_of e w) (offer_of e q)) where
+    by_names : moved ≡ by_name (offer_of e o) (waiting_of e w) (waiting_of e c) (waiting_of e p) at
+    by_names =
+        let n = none_waits w c p none in
+        chosen ∙ rw (no_error e p (sym n.2), no_error e c (sym n.1), no_error e w (sym n.0), first, second, alone e p (sym n.2))
 
--- ---- the choice
+    pub take_nothing : None ≡ o → record { answer = nothing; next = at } ≡ moved
+    take_nothing h = sym (by_names ∙ rw (← h))
 
-module _ (x y z : Waiting) (at : Positions) (m : Move) where
-  pub choose_packed : (a : Answer) (i : ℕ) → z ≡ error a i → m ≡ record { answer = a; next = record { worktree = at.worktree; common = at.common; packed = i } } → m ≡ choose x y z at
-  choose_packed a i h g = g ∙ rw h
-
-  module _ (packed : NoError z) where
-    pub choose_common : (a : Answer) (i : ℕ) → y ≡ error a i → m ≡ record { answer = a; next = record { worktree = at.worktree; common = i; packed = at.packed } } → m ≡ choose x y z at
-    choose_common a i h g = g ∙ rw (packed, h)
-
-    module _ (common : NoError y) where
-      pub choose_worktree : (a : Answer) (i : ℕ) → x ≡ error a i → m ≡ record { answer = a; next = record { worktree = i; common = at.common; packed = at.packed } } → m ≡ choose x y z at
-      choose_worktree a i h g = g ∙ rw (packed, common, h)
-
-      pub choose_name : NoError x → m ≡ by_name (least x (least y (least z None))) x y z at → m ≡ choose x y z at
-      choose_name worktree g = g ∙ rw (packed, common, worktree)
-
--- f, s and t are the offers of packed, then of common too, then of all
-module _ (x y z : Waiting) (at : Positions) (f s t : Option Offer) (first : f ≡ least z None) (second : s ≡ least y f) (third : t ≡ least x s) where
-  all_three : t ≡ least x (least y (least z None))
-  all_three = third ∙ rw (second, first)
-
-  pub name_none : t ≡ None → record { answer = offered t; next = at } ≡ by_name (least x (least y (least z None))) x y z at
-  name_none e = rw (← all_three, e)
-
-  pub name_given : (o : Offer) (i j k : ℕ) → t ≡ Some o → i ≡ past o.name x at.worktree → j ≡ past o.name y at.common → k ≡ past o.name z at.packed
-      → record { answer = o.answer; next = record { worktree = i; common = j; packed = k } } ≡ by_name (least x (least y (least z None))) x y z at
-  name_given o i j k e u v w = rw (← all_three, e, u, v, w)
+    pub take_name : (x : waiting.Waiting) → Some x ≡ o → (i j k : ℕ) (n : Bytes) → n ≡ own_name (entry_as x.found.entry)
+        → i ≡ past n (waiting_of e w) at.worktree → j ≡ past n (waiting_of e c) at.common → k ≡ past n (waiting_of e p) at.packed
+        → record { answer = own_answer e (entry_as x.found.entry); next = record { worktree = i; common = j; packed = k } } ≡ moved
+    take_name x h i j k n is y z u = sym (by_names ∙ rw (← h, ← is, y, z, u))

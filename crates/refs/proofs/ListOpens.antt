@@ -1,6 +1,5 @@
--- The opening: a namespace that is given or not, and its check.
-use mathlib.Core.Path.{◌≡◌, refl, ◌∙◌}
-use mathlib.Core.Bool.{Bool, true, false, not, true≢false, false≢true}
+-- The opening: the regions' sizes, then the namespace.
+use mathlib.Core.Path.{◌≡◌, refl, sym, ◌∙◌}
 use mathlib.Core.List.{[]}
 use Rattle.std.specs.Prelude.{Option, None, Some}
 use Prim.Native.Nat.{ℕ, ◌≤◌}
@@ -11,59 +10,48 @@ use Rattle.names.specs.Name.{longest}
 use Rattle.names.specs.Check.{Check, gives, refuses, checked, ◌or_else◌}
 use Rattle.names.specs.Namespace.{expand, expansion, names_check, expanded}
 use Rattle.names.proofs.Rows.{names_none, expanded_is, expansion_fits}
-use Rattle.blocks.specs.Means.{if_there}
-use Rattle.blocks.specs.Snapshot.{Snapshot, is_there, size_check}
-use Rattle.refs.specs.Run.{State, start, run, open_listing, run_opened, listing, answers_of}
-use Rattle.refs.specs.Means.{state_of, opening_check, opened}
-use Rattle.refs.specs.declared.overlay_iter.Opening.{Opening}
-use Rattle.refs.specs.declared.overlay_iter.Opening.TheVariants as opening
-use Rattle.refs.specs.declared.overlay_iter.Opened.{Opened}
+use Rattle.blocks.specs.Snapshot.{Snapshot, size_check}
+use Rattle.refs.specs.Run.{State, start, run, open_listing, listing, answers_of}
 
-pub no_namespace : (has : Bool) (s : Bytes) → not has ≡ true → gives (start []) ≡ checked (names_check None (if_there has s)) (start (expansion (if_there has s)))
-no_namespace true s h = absurd (false≢true h)
-no_namespace false s h = rw names_none
+module _ (s : Snapshot) where
+  pub sizes_refused : (namespace : Option Bytes) (k : ℕ) → Some k ≡ size_check s → refuses k ≡ open_listing s namespace
+  unfolding open_listing
+  sizes_refused namespace k h = rw (← h)
 
-gives_start : (k : Check) (n e : Bytes) → gives n ≡ checked k e → gives (start n) ≡ checked k (start e)
-gives_start None n e h = let q : n ≡ e = cc in rw q
-gives_start (Some k) n e h = let z : ◌≡◌ {A = ℕ} 0 1 = cc in absurd (omega arith)
+  module _ (right : None ≡ size_check s) where
+    pub no_namespace : gives (start []) ≡ open_listing s None
+    unfolding open_listing
+    no_namespace = rw (← right, names_none)
 
-refuses_start : (k : Check) (j : ℕ) (e : Bytes) → refuses j ≡ checked k e → refuses j ≡ checked k (start e)
-refuses_start None j e h = let z : ◌≡◌ {A = ℕ} 0 1 = cc in absurd (omega arith)
-refuses_start (Some k) j e h = let q : j ≡ k = cc in rw q
+    module _ (t : Bytes) where
+      pub namespace_right : (e : Bytes) → gives e ≡ expanded t → gives (start e) ≡ open_listing s (Some t)
+      unfolding open_listing
+      namespace_right e h = rw (← right) (go (names_check None (Some t)) (h ∙ expanded_is t))
+        where
+          go : (k : Check) → gives e ≡ checked k (expand t) → gives (start e) ≡ checked k (start (expand t))
+          go None h = let q : e ≡ expand t = cc in rw q
+          go (Some k) h = let z : ◌≡◌ {A = ℕ} 0 1 = cc in absurd (omega arith)
 
-pub namespace_right : (has : Bool) (s n : Bytes) → not has ≡ false → gives n ≡ expanded s → gives (start n) ≡ checked (names_check None (if_there has s)) (start (expansion (if_there has s)))
-namespace_right true s n t h = gives_start (names_check None (Some s)) n (expand s) (h ∙ expanded_is s)
-namespace_right false s n t h = absurd (true≢false t)
-
-pub namespace_refused : (has : Bool) (s : Bytes) (j : ℕ) → not has ≡ false → refuses j ≡ expanded s → refuses j ≡ checked (names_check None (if_there has s)) (start (expansion (if_there has s)))
-namespace_refused true s j t h = refuses_start (names_check None (Some s)) j (expand s) (h ∙ expanded_is s)
-namespace_refused false s j t h = absurd (true≢false t)
+      pub namespace_refused : (j : ℕ) → refuses j ≡ expanded t → refuses j ≡ open_listing s (Some t)
+      unfolding open_listing
+      namespace_refused j h = rw (← right) (go (names_check None (Some t)) (h ∙ expanded_is t))
+        where
+          go : (k : Check) → refuses j ≡ checked k (expand t) → refuses j ≡ checked k (start (expand t))
+          go None h = let z : ◌≡◌ {A = ℕ} 0 1 = cc in absurd (omega arith)
+          go (Some k) h = let q : j ≡ k = cc in rw q
 
 -- ---- the answers of a listing
 
--- none, where the opening is refused
-pub not_opened_answers : (width : ℕ) (s : Snapshot) (namespace : Option Bytes) (n : ℕ) (o : Opened) → opened o ≡ open_listing s namespace → not (is_there (opening_check o.opening)) ≡ false
-    → answers_of (listing width s namespace n) ≡ []
-unfolding listing
-not_opened_answers width s namespace n o e h = rw (← e) (go o.opening h)
-  where
-    go : (x : Opening) → not (is_there (opening_check x)) ≡ false → answers_of (run_opened width s n (checked (opening_check x) (state_of o.state))) ≡ []
-    go opening.Opened z = cc
-    go opening.NotWhole z = refl
-    go opening.TooMany z = refl
-    go (opening.Refused why) z = refl
+module _ (width : ℕ) (s : Snapshot) (namespace : Option Bytes) (n : ℕ) where
+  -- none, where the opening is refused
+  pub not_opened_answers : (k : ℕ) → refuses k ≡ open_listing s namespace → answers_of (listing width s namespace n) ≡ []
+  unfolding listing
+  not_opened_answers k h = rw (← h)
 
--- else those of the steps from the state that it gives
-pub opened_answers : (width : ℕ) (s : Snapshot) (namespace : Option Bytes) (n : ℕ) (o : Opened) → opened o ≡ open_listing s namespace → not (is_there (opening_check o.opening)) ≡ true
-    → answers_of (listing width s namespace n) ≡ (run width s n (state_of o.state)).answers
-unfolding listing
-opened_answers width s namespace n o e h = rw (← e) (go o.opening h)
-  where
-    go : (x : Opening) → not (is_there (opening_check x)) ≡ true → answers_of (run_opened width s n (checked (opening_check x) (state_of o.state))) ≡ (run width s n (state_of o.state)).answers
-    go opening.Opened z = refl
-    go opening.NotWhole z = cc
-    go opening.TooMany z = cc
-    go (opening.Refused why) z = cc
+  -- else those of the steps from the state that it gives
+  pub opened_answers : (st : State) → gives st ≡ open_listing s namespace → answers_of (listing width s namespace n) ≡ (run width s n st).answers
+  unfolding listing
+  opened_answers st h = rw (← h)
 
 -- ---- the state of an opening
 

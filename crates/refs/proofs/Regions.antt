@@ -22,8 +22,12 @@ use Rattle.blocks.proofs.Walks.{length_entries}
 use Rattle.blocks.proofs.Entries.{entries_at, sound_name}
 use Rattle.refs.specs.Answer.{block_of}
 use Rattle.refs.specs.Search.{clashes}
-use Rattle.refs.specs.Promises.{Flawless}
+use Rattle.blocks.specs.Fitness.{first_flaw}
 use Rattle.refs.proofs.Blocks.{absent}
+
+-- none of the blocks of a region has a flaw
+abbrev pub Flawless : Region → Bytes → Type 0
+Flawless r s = first_flaw r (entries id_width r s) ≡ None
 
 -- ---- sorted entries
 

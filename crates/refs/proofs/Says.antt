@@ -1,90 +1,78 @@
--- What the entry of a block answers, from its kind with name and content beside it.
-use Rattle.std.specs.Prelude.{if◌then◌else◌}
+-- What an entry says, and that its parts fit.
 use mathlib.Core.Path.{◌≡◌, refl, sym, ◌∙◌}
+use denote.Ref.{Bor}
+use mathlib.Core.List.{List}
+use mathlib.Core.Bool.{Bool, true, false, ◌&&◌}
+use Rattle.refs.specs.Answer.{found}
 use Prim.Native.Nat.{ℕ, ◌≤◌}
 use native.Mathlib.Omega.{arith}
-use mathlib.Core.Bool.{Bool, true, false}
-use Rattle.std.specs.Prelude.{Option, None, Some}
-use lib.ListN.{length, take, drop}
+use borrow.Author.Tests.{le-leb, leb-true, eqb-true}
+use lib.Dec.{leb}
+use lib.ListN.{length, take}
 use lib.Seq.{take_all}
-use Rattle.names.specs.Bytes.{Bytes, strip}
-use Rattle.names.specs.Means.{held}
+use Rattle.std.specs.Prelude.{Option, None, Some, Ok, if◌then◌else◌}
+use Rattle.std.specs.Option.{option_map}
+use Rattle.names.specs.Bytes.{Bytes, bytes, same, starts_with, strip}
+use Rattle.names.specs.Name.{longest, fits}
+use Rattle.names.specs.WellFormed.{complete}
 use Rattle.names.proofs.Prefix.{strip_length}
-use Rattle.names.specs.Name.{longest}
-use Rattle.blocks.specs.Block.{Region}
-use Rattle.blocks.specs.Content.{object}
-use Rattle.blocks.specs.Entry.{packed_record}
-use Rattle.blocks.specs.Means.{id_width, name_in, content_in, entry_in, as_entry, id_in, target_name_in}
-use Rattle.blocks.specs.declared.block.EntryKind.{EntryKind}
-use Rattle.blocks.specs.declared.block.EntryKind.TheVariants.{Record, PeeledRecord}
+use Rattle.names.proofs.Tests.{and_left, and_right}
+use Rattle.blocks.specs.Layout.{longest_content}
+use Rattle.blocks.specs.Content.{Target, object, symbolic, Reading, reads, unreadable, lower_case, target_name_in, read_target, read_id, read}
+use Rattle.blocks.specs.Means.{id_width, id_in, read_as}
+use Rattle.blocks.specs.declared.decode.TargetRef.{TargetRef}
+use Rattle.blocks.specs.declared.decode.TargetRef.TheVariants as ref
 use Rattle.blocks.proofs.Contents.{target_le}
-use Rattle.blocks.proofs.Sound.{Ids, record_ids, target_id, peeled_id}
-use Rattle.refs.specs.Answer.{Reference, Answer, found, strip_target, strip_reference, strip_answer}
-use Rattle.refs.specs.declared.raw.Kind.{Kind}
-use Rattle.refs.specs.declared.raw.Kind.TheVariants.{Object, Symbolic}
-use Rattle.refs.specs.declared.raw.Outcome.{Outcome}
-use Rattle.refs.specs.declared.raw.Outcome.TheVariants as outcome
-use Rattle.refs.specs.declared.raw.Said.{Said}
-use Rattle.refs.specs.Means.{target_of, answer_with, target_part, block_reference}
-use Rattle.refs.specs.Promises.{says_at, BlockIs, said_reference}
+use Rattle.blocks.proofs.Ids.{id_whole}
+use Rattle.refs.specs.Whole.{whole_id, whole_if_given, target_in, target_fits}
 
-module _ (r : Region) (s : Bytes) (k : ℕ) (kind : EntryKind) (name c n : Bytes) (b : BlockIs r s k kind name c) where
-  -- the answer is that of the kind
-  pub said : (a : Answer) → a ≡ says_at n (as_entry id_width kind name c) → a ≡ says_at n (entry_in id_width r s k)
-  said a e = e ∙ rw (b.name_is, b.content_is, b.entry_is)
+-- ---- loose
 
-  said_ids : (p : Option Bytes) → as_entry id_width kind (name_in s k) (content_in s k) ≡ Some (packed_record (name_in s k) (take id_width (content_in s k)) p) → Ids id_width c (take id_width (content_in s k)) p
-  said_ids p e = rw b.content_is (record_ids id_width r s k (name_in s k) (take id_width (content_in s k)) p (sym b.entry_is ∙ e))
+pub reads_target : (t : TargetRef) (r : Reading) → read_as (Ok t) ≡ r → reads (target_in t) ≡ r
+reads_target (ref.Object d) r h = h
+reads_target (ref.Symbolic n) r h = h
 
-  pub said_record : kind ≡ Record → (a : Answer) → a ≡ found (record { name = name; target = object (id_in id_width c); peeled = None }) → a ≡ says_at n (entry_in id_width r s k)
-  said_record e a h =
-      let i = said_ids None (rw e) in
-      said a (h ∙ rw (e, target_id id_width c (take id_width (content_in s k)) None i, b.content_is))
+target_read : (c : Bytes) (x : Target) → length c ≤ longest → reads x ≡ read id_width c → target_fits x ≡ true
+unfolding read read_target read_id
+target_read c (object d) l h = refl
+target_read c (symbolic t) l h = go (starts_with (bytes "ref: ") c) h
+  where
+    named : (b d : Bool) → reads (symbolic t) ≡ (if b then reads (symbolic (target_name_in c)) else if d then unreadable 12 else unreadable 11) → fits t ≡ true
+    named true d q = let z : t ≡ target_name_in c = cc in le-leb _ _ (rw z (omega (arith, target_le c)))
+    named false true q = absurd (let z : ◌≡◌ {A = ℕ} 0 1 = cc in omega arith)
+    named false false q = absurd (let z : ◌≡◌ {A = ℕ} 0 1 = cc in omega arith)
 
-  pub said_peeled : kind ≡ PeeledRecord → (a : Answer) → a ≡ found (record { name = name; target = object (id_in id_width c); peeled = Some (id_in id_width (drop id_width c)) }) → a ≡ says_at n (entry_in id_width r s k)
-  said_peeled e a h =
-      let q = drop id_width (content_in s k) in
-      let i = said_ids (Some q) (rw e) in
-      said a (h ∙ rw (e, target_id id_width c (take id_width (content_in s k)) (Some q) i, peeled_id id_width c (take id_width (content_in s k)) q i, b.content_is))
+    other : (b : Bool) → reads (symbolic t) ≡ (if b then reads (object (lower_case (take id_width c))) else unreadable 10) → fits t ≡ true
+    other true q = absurd (let z : ◌≡◌ {A = ℕ} 0 1 = cc in omega arith)
+    other false q = absurd (let z : ◌≡◌ {A = ℕ} 0 1 = cc in omega arith)
 
--- ---- the reference that is said
+    go : (b : Bool) → reads (symbolic t) ≡ (if b then read_target (target_name_in c) else read_id id_width c) → fits t ≡ true
+    go true q = named (complete (target_name_in c)) (same (target_name_in c) (bytes "refs/heads/.invalid")) q
+    go false q = other _ q
 
--- what was put into a name, where it fits
-pub filled_whole : (b s : Bytes) (k : ℕ) → held b k ≡ take longest s → length s ≤ longest → held b k ≡ s
-filled_whole b s k e h = e ∙ take_all longest s h
+pub loose_fits : (c : Bytes) (t : TargetRef) → leb (length c) longest_content ≡ true → read_as (Ok t) ≡ read id_width c → target_fits (target_in t) ≡ true
+loose_fits c t l h = target_read c (target_in t) (leb-true _ _ l) (reads_target t _ h)
+
+-- ---- packed
+
+whole_is : (d : Bytes) → whole_id d ≡ true → id_in id_width d ≡ lower_case d
+whole_is d h =
+    let l : length d ≡ id_width = eqb-true _ _ h in
+    id_whole id_width d (omega arith) ∙ rw (take_all id_width d (omega arith))
+
+peeled_is : (p : Option (Bor (List ℕ))) → whole_if_given (option_map (λ r. r.now) p) ≡ true → option_map (λ d. id_in id_width d.now) p ≡ option_map lower_case (option_map (λ r. r.now) p)
+peeled_is None h = refl
+peeled_is (Some d) h = rw (whole_is d.now h)
+
+pub record_says : (m t : Bytes) (p : Option (Bor (List ℕ))) → (whole_id t && whole_if_given (option_map (λ r. r.now) p)) ≡ true
+    → found (record { name = m; target = object (id_in id_width t); peeled = option_map (λ d. id_in id_width d.now) p }) ≡ found (record { name = m; target = object (lower_case t); peeled = option_map lower_case (option_map (λ r. r.now) p) })
+record_says m t p h = rw (whole_is t (and_left _ _ h), peeled_is p (and_right (whole_id t) _ h))
+
+-- ---- names
 
 -- stripped, it still fits
-pub strip_fits : (e s : Bytes) (m : ℕ) → length s ≤ m → length (strip e s) ≤ m
-strip_fits e s m h = omega (arith, strip_length e s)
+pub strip_fits : (e s : Bytes) → length s ≤ longest → take longest (strip e s) ≡ strip e s
+strip_fits e s h = take_all longest (strip e s) (omega (arith, strip_length e s))
 
--- one of two names
-pub either_fits : (m : ℕ) (b : Bool) (s t : Bytes) → length s ≤ m → length t ≤ m → length (if b then s else t) ≤ m
-either_fits m true s t h g = h
-either_fits m false s t h g = g
-
--- the target's name is no longer than the content
-pub target_short : (kind : Kind) (c : Bytes) → length (target_part kind c) ≤ length c
-target_short Object c = omega arith
-target_short Symbolic c = target_le c
-
-target_said : (kind : Kind) (e id c : Bytes) → target_of kind id (strip e (target_part kind c)) ≡ strip_target e (target_of kind id (target_name_in c))
-target_said Object e id c = refl
-target_said Symbolic e id c = refl
-
--- what a block says, stripped
-pub said_stripped : (e : Bytes) (s : Said) (n own c : Bytes) → block_reference e s.kind s.has_peeled (if s.from_packed then own else n) c ≡ strip_reference e (said_reference s n own c)
-said_stripped e s n own c = rw (target_said s.kind e (id_in id_width c) c)
-
-same_either : (b : Bool) (s : Bytes) → (if b then s else s) ≡ s
-same_either true s = refl
-same_either false s = refl
-
--- and under its own name
-pub said_own : (e : Bytes) (s : Said) (own c : Bytes) → block_reference e s.kind s.has_peeled own c ≡ strip_reference e (said_reference s own own c)
-said_own e s own c = rw (same_either s.from_packed own, target_said s.kind e (id_in id_width c) c)
-
--- stripping keeps the outcome
-pub strip_with : (e : Bytes) (o : Outcome) (r : Reference) → answer_with o (strip_reference e r) ≡ strip_answer e (answer_with o r)
-strip_with e outcome.Nothing r = refl
-strip_with e outcome.Found r = refl
-strip_with e (outcome.Refused why) r = refl
+pub cut_stripped : (e s : Bytes) → fits s ≡ true → take longest (strip e s) ≡ strip e s
+cut_stripped e s h = strip_fits e s (leb-true (length s) longest h)

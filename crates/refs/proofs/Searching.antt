@@ -1,50 +1,68 @@
 -- The candidates one after the other.
 use Rattle.std.specs.Prelude.{if◌then◌else◌}
 use mathlib.Core.Path.{◌≡◌, refl, sym, ap, ◌∙◌}
-use Prim.Native.Nat.{ℕ, zero, suc, ◌+◌, ◌≤◌, ◌<◌}
-use native.Mathlib.Omega.{arith}
-use mathlib.Core.List.{List, [], ◌∷◌, ◌++◌}
+use Prim.Native.Nat.{ℕ, ◌+◌, ◌<◌, ◌≤◌}
+use native.Mathlib.Numerals.{add-one}
+use mathlib.Core.List.{List, [], ◌∷◌, ◌++◌, map}
 use mathlib.Core.Bool.{Bool, true, false, true≢false, false≢true}
+use Rattle.std.specs.Prelude.{Option, None, Some, is_some}
 use Rattle.names.specs.Bytes.{Bytes, bytes, same}
 use Rattle.names.specs.Name.{is_pseudo}
-use lib.ListN.{take, drop}
+use Rattle.names.specs.Means.{content}
+use lib.ListN.{length, take, drop, get_or, drop_of_length-le}
+use lib.Seq.{drop-cons}
+use denote.Ref.{Bor}
 use Rattle.names.specs.Candidates.{Candidate, full_name, pass, passes, last_candidate, sought_packed}
-use Rattle.names.specs.Means.{held, filled, if_fits}
-use Rattle.names.specs.declared.name.Filled.{Filled}
-use Rattle.names.specs.declared.name.Filled.TheVariants.{To, TooLong}
-use Rattle.names.proofs.Held.{filled_is, filled_fits, filled_refused}
 use Rattle.names.proofs.Passes.{candidates_are, passes_are, pass_is, last_of_head, last_of_other}
+use Rattle.blocks.specs.Entry.{Entry, damaged, failed, loose, unread, packed_record}
+use Rattle.blocks.specs.Content.{Reading, reads, unreadable, read}
 use Rattle.blocks.specs.Snapshot.{Snapshot, store}
 use Rattle.blocks.specs.Means.{id_width}
-use Rattle.refs.specs.Answer.{Answer, nothing, found, refused}
-use Rattle.refs.specs.Search.{or_next, lookup, first_answer, search}
-use Rattle.refs.specs.Promises.{candidate_answer, between, looked_up, or_answer, first_of, pass_names, is_answer, last_answer, search_answer}
+use Rattle.refs.specs.Answer.{Answer, nothing, found, refused, reading_says, says, strip_answer}
+use Rattle.refs.specs.Search.{answer_of, or_next, first_answer, search}
+use Rattle.blocks.specs.Means.{entry_as}
+use Rattle.refs.specs.Promises.{looked_up, or_answer, first_of, full_names, last_answer, hit_answer}
+use Rattle.refs.specs.declared.find.Hit.{Hit}
+
+-- ---- the answer of a hit
+
+-- there is an answer
+abbrev is_answer : Answer → Bool
+is_answer nothing = false
+is_answer (found r) = true
+is_answer (refused k) = true
+
+reading_answers : (e n : Bytes) (d : Reading) → is_answer (strip_answer e (reading_says n d)) ≡ true
+reading_answers e n (reads t) = refl
+reading_answers e n (unreadable k) = refl
+
+-- an entry always answers
+entry_answers : (e n : Bytes) (x : Entry) → is_answer (strip_answer e (says id_width n x)) ≡ true
+entry_answers e n damaged = refl
+entry_answers e n failed = refl
+entry_answers e n (loose m d) = reading_answers e n (read id_width d)
+entry_answers e n (unread m) = refl
+entry_answers e n (packed_record m t q) = refl
 
 or_left : (a b : Answer) → is_answer a ≡ true → or_answer a b ≡ a
 or_left nothing b h = absurd (false≢true h)
 or_left (found r) b h = refl
 or_left (refused k) b h = refl
 
-or_right : (a b : Answer) → is_answer a ≡ false → or_answer a b ≡ b
-or_right nothing b h = refl
-or_right (found r) b h = absurd (true≢false h)
-or_right (refused k) b h = absurd (true≢false h)
+-- a hit ends a search
+pub hit_or : (e : Bytes) (h : Option Hit) (b : Answer) → is_some h ≡ true → or_answer (hit_answer e h) b ≡ hit_answer e h
+hit_or e None b t = absurd (false≢true t)
+hit_or e (Some h) b t = or_left _ b (entry_answers e (content h.name) (entry_as h.entry.entry))
+
+-- without one it goes on
+pub no_hit_or : (e : Bytes) (h : Option Hit) (b : Answer) → is_some h ≡ false → or_answer (hit_answer e h) b ≡ b
+no_hit_or e None b t = refl
+no_hit_or e (Some h) b t = absurd (true≢false t)
 
 module _ (e : Bytes) (s : Snapshot) where
-  -- ---- a candidate that was put into bytes
-
-  module _ (b : Bytes) (f : Filled) (n : Bytes) (h : filled b f ≡ if_fits n) (seek : Bool) where
-    pub filled_absent : f ≡ TooLong → nothing ≡ looked_up e s n seek
-    unfolding lookup
-    filled_absent g = rw (filled_refused b n f h g)
-
-    pub filled_there : (k : ℕ) → f ≡ To k → candidate_answer e s (held b k) seek ≡ looked_up e s n seek
-    unfolding lookup
-    filled_there k g = rw (filled_is b n f h k g, filled_fits b n f h k g)
-
   -- ---- names one after the other
 
-  pub first_append : (l m : List Bytes) (rest : Answer) → first_of e s (l ++ m) rest ≡ first_of e s l (first_of e s m rest)
+  first_append : (l m : List Bytes) (rest : Answer) → first_of e s (l ++ m) rest ≡ first_of e s l (first_of e s m rest)
   unfolding first_of
   first_append [] m rest = refl
   first_append (n ∷ l) m rest = rw (first_append l m rest)
@@ -60,79 +78,34 @@ module _ (e : Bytes) (s : Snapshot) where
       go (found r) h = refl
       go (refused k) h = refl
 
-  pub search_is : (x : Bytes) → search_answer e s x ≡ first_of e s (passes x) (last_answer e s x)
+  search_is : (x : Bytes) → (search id_width e (store id_width s) x).answer ≡ first_of e s (passes x) (last_answer e s x)
   unfolding search
   search_is x = ap (λ (l : List Candidate). (first_answer id_width e (store id_width s) l).answer) (candidates_are x) ∙ next_answer (passes x) (last_candidate x)
 
-  -- ---- a pass
+  -- ---- a pass over some directories
 
-  module _ (x : Bytes) (pseudo : Bool) where
-    -- what directory d answers
-    abbrev tried : ℕ → Answer
-    tried d = looked_up e s (full_name pseudo (between d) x) true
+  -- what a search of the names l finds is what one of the names m does
+  pub record Left (l m : List Bytes) : Type 0 where
+    pub same : (rest : Answer) → first_of e s l rest ≡ first_of e s m rest
 
-    -- the pass, but for what the directories before d gave
-    abbrev pub Left : ℕ → Type 0
-    Left d = (rest : Answer) → first_of e s (pass pseudo x) rest ≡ first_of e s (drop d (pass pseudo x)) rest
+  pub left_start : (l : List Bytes) → Left l l
+  left_start l = record { same = λ rest. refl }
 
-    below_four : (P : ℕ → Type 0) → P 0 → P 1 → P 2 → P 3 → (d : ℕ) → d < 4 → P d
-    below_four P a b c f zero h = a
-    below_four P a b c f (suc zero) h = b
-    below_four P a b c f (suc (suc zero)) h = c
-    below_four P a b c f (suc (suc (suc zero))) h = f
-    below_four P a b c f (suc (suc (suc (suc d)))) h = absurd (omega arith)
-
-    -- the names of a pass
-    abbrev four : List Bytes
-    four = full_name pseudo [] x ∷ full_name pseudo (bytes "tags/") x ∷ full_name pseudo (bytes "heads/") x ∷ full_name pseudo (bytes "remotes/") x ∷ []
-
-    turn_of_four : (d : ℕ) → d < 4 → (rest : Answer) → first_of e s (drop d four) rest ≡ or_answer (tried d) (first_of e s (drop (d + 1) four) rest)
+  module _ (pseudo : Bool) (x : Bytes) (l : List Bytes) (m : List (Bor Bytes)) (i : ℕ) (k : Left l (full_names pseudo x (drop i m))) where
+    pub left_end : length m ≤ i → (rest : Answer) → first_of e s l rest ≡ rest
     unfolding first_of
-    turn_of_four = below_four (λ d. (rest : Answer) → first_of e s (drop d four) rest ≡ or_answer (tried d) (first_of e s (drop (d + 1) four) rest)) (λ r. refl) (λ r. refl) (λ r. refl) (λ r. refl)
+    left_end h rest = k.same rest ∙ rw (drop_of_length-le m h)
 
-    turn : (d : ℕ) → d < 4 → (rest : Answer) → first_of e s (drop d (pass pseudo x)) rest ≡ or_answer (tried d) (first_of e s (drop (d + 1) (pass pseudo x)) rest)
-    turn d h rest = rw (pass_is x pseudo) (turn_of_four d h rest)
-
-    -- how far a pass has come: directories before d gave nothing; where only the first counts, it stands there
-    pub record Stands (one : Bool) (d : ℕ) : Type 0 where
-      pub within : d ≤ 4
-      pub left : Left d
-      pub first : one ≡ true → d ≡ 0
-
-    pub stands_start : (one : Bool) → Stands one 0
-    stands_start one = record { within = omega arith; left = λ rest. refl; first = λ h. refl }
-
-    module _ (one : Bool) (d : ℕ) (h : Stands one d) (l : d < 4) (a : Answer) (t : a ≡ looked_up e s (full_name pseudo (between d) x) true) where
-      pub stands_next : is_answer a ≡ false → one ≡ false → Stands one (d + 1)
-      stands_next n o =
-          record {
-            within = omega arith;
-            left = λ rest. h.left rest ∙ turn d l rest ∙ rw (← t) (or_right a _ n);
-            first = λ k. absurd (true≢false (sym k ∙ o));
-          }
-
-      -- the first directory of a pass in which only that counts
-      alone : one ≡ true → (rest : Answer) → first_of e s (take 1 (pass pseudo x)) rest ≡ or_answer a rest
+    module _ (h : i < length m) (d : Bor Bytes) (o : Option Hit) (q : hit_answer e o ≡ looked_up e s (full_name pseudo (get_or m i d).now x) true) where
+      turn : (rest : Answer) → first_of e s l rest ≡ or_answer (hit_answer e o) (first_of e s (full_names pseudo x (drop (i + 1) m)) rest)
       unfolding first_of
-      alone o rest = let z : d ≡ 0 = h.first o in rw (pass_is x pseudo, t, z)
+      turn rest = k.same rest ∙ rw (add-one, drop-cons m i d h, q)
 
-      pub pass_found : is_answer a ≡ true → (rest : Answer) → first_of e s (pass_names pseudo one x) rest ≡ or_answer a rest
-      pass_found n rest = go one refl
-        where
-          go : (o : Bool) → one ≡ o → first_of e s (if o then take 1 (pass pseudo x) else pass pseudo x) rest ≡ or_answer a rest
-          go true o = alone o rest
-          go false o = h.left rest ∙ turn d l rest ∙ rw (← t) (or_left a _ n ∙ sym (or_left a rest n))
+      pub left_found : is_some o ≡ true → (rest : Answer) → first_of e s l rest ≡ or_answer (hit_answer e o) rest
+      left_found t rest = turn rest ∙ hit_or e o _ t ∙ sym (hit_or e o rest t)
 
-      pub pass_early : is_answer a ≡ false → one ≡ true → (rest : Answer) → first_of e s (pass_names pseudo one x) rest ≡ rest
-      pass_early n o rest = rw o (alone o rest ∙ or_right a rest n)
-
-    pub pass_end : (one : Bool) (d : ℕ) → Stands one d → 4 ≤ d → (rest : Answer) → first_of e s (pass_names pseudo one x) rest ≡ rest
-    unfolding first_of
-    pass_end one d h l rest = go one refl
-      where
-        go : (o : Bool) → one ≡ o → first_of e s (if o then take 1 (pass pseudo x) else pass pseudo x) rest ≡ rest
-        go true o = absurd (omega (arith, h.first o))
-        go false o = let z : d ≡ 4 = omega (arith, h.within) in h.left rest ∙ rw (z, pass_is x pseudo)
+      pub left_next : is_some o ≡ false → Left l (full_names pseudo x (drop (i + 1) m))
+      left_next t = record { same = λ rest. turn rest ∙ no_hit_or e o _ t }
 
   -- ---- the last candidate
 
@@ -156,31 +129,35 @@ module _ (e : Bytes) (s : Snapshot) where
 
   -- ---- the passes
 
-  -- what follows the first pass: the second, if it was left early
-  abbrev then_answer : Bytes → Bool → Answer
-  then_answer x true = first_of e s (pass false x) (last_answer e s x)
-  then_answer x false = last_answer e s x
+  -- what a pass over the first k directories gives
+  abbrev pub PassGives : Bool → Bytes → ℕ → Option Hit → Type 0
+  PassGives pseudo x k h = (rest : Answer) → first_of e s (take k (pass pseudo x)) rest ≡ or_answer (hit_answer e h) rest
 
-  passes_then : (x : Bytes) (p : Bool) → first_of e s (if p then take 1 (pass true x) ++ pass false x else pass true x) (last_answer e s x) ≡ first_of e s (pass_names true p x) (then_answer x p)
-  passes_then x true = first_append (take 1 (pass true x)) (pass false x) (last_answer e s x)
-  passes_then x false = refl
+  module _ (x : Bytes) (h : Option Hit) where
+    -- of a pseudo name the first pass tries only itself
+    module _ (p : true ≡ is_pseudo x) (f : PassGives true x 1 h) where
+      first_pass : (search id_width e (store id_width s) x).answer ≡ or_answer (hit_answer e h) (first_of e s (pass false x) (last_answer e s x))
+      first_pass = search_is x ∙ ap (λ (l : List Bytes). first_of e s l (last_answer e s x)) (passes_are x true p) ∙ first_append (take 1 (pass true x)) (pass false x) (last_answer e s x) ∙ f _
 
-  module _ (x : Bytes) (p : Bool) (q : p ≡ is_pseudo x) (a : Answer) (f : (rest : Answer) → first_of e s (pass_names true p x) rest ≡ or_answer a rest) where
-    first_pass : search_answer e s x ≡ or_answer a (then_answer x p)
-    first_pass = search_is x ∙ ap (λ (l : List Bytes). first_of e s l (last_answer e s x)) (passes_are x p q) ∙ passes_then x p ∙ f (then_answer x p)
+      pub pseudo_first : is_some h ≡ true → hit_answer e h ≡ (search id_width e (store id_width s) x).answer
+      pseudo_first t = sym (first_pass ∙ hit_or e h _ t)
 
-    pub search_first : is_answer a ≡ true → a ≡ search_answer e s x
-    search_first n = sym (first_pass ∙ or_left a (then_answer x p) n)
+      module _ (t : is_some h ≡ false) (g : Option Hit) (f₂ : PassGives false x 4 g) where
+        second_pass : (search id_width e (store id_width s) x).answer ≡ or_answer (hit_answer e g) (last_answer e s x)
+        second_pass = first_pass ∙ no_hit_or e h _ t ∙ rw (pass_is x false) (rw (pass_is x false) at f₂ (last_answer e s x))
 
-    pub search_one : is_answer a ≡ false → p ≡ false → (b : Answer) → b ≡ last_answer e s x → b ≡ search_answer e s x
-    search_one n o b g = g ∙ sym (first_pass ∙ or_right a (then_answer x p) n ∙ ap (then_answer x) o)
+        pub pseudo_second : is_some g ≡ true → hit_answer e g ≡ (search id_width e (store id_width s) x).answer
+        pseudo_second u = sym (second_pass ∙ hit_or e g _ u)
 
-    module _ (n : is_answer a ≡ false) (o : p ≡ true) (b : Answer) (h : (rest : Answer) → first_of e s (pass false x) rest ≡ or_answer b rest) where
-      second_pass : search_answer e s x ≡ or_answer b (last_answer e s x)
-      second_pass = first_pass ∙ or_right a (then_answer x p) n ∙ ap (then_answer x) o ∙ h (last_answer e s x)
+        pub pseudo_last : is_some g ≡ false → last_answer e s x ≡ (search id_width e (store id_width s) x).answer
+        pseudo_last u = sym (second_pass ∙ no_hit_or e g _ u)
 
-      pub search_second : is_answer b ≡ true → b ≡ search_answer e s x
-      search_second m = sym (second_pass ∙ or_left b (last_answer e s x) m)
+    module _ (p : false ≡ is_pseudo x) (f : PassGives true x 4 h) where
+      only_pass : (search id_width e (store id_width s) x).answer ≡ or_answer (hit_answer e h) (last_answer e s x)
+      only_pass = search_is x ∙ ap (λ (l : List Bytes). first_of e s l (last_answer e s x)) (passes_are x false p) ∙ rw (pass_is x true) (rw (pass_is x true) at f (last_answer e s x))
 
-      pub search_last : is_answer b ≡ false → (c : Answer) → c ≡ last_answer e s x → c ≡ search_answer e s x
-      search_last m c g = g ∙ sym (second_pass ∙ or_right b (last_answer e s x) m)
+      pub found_first : is_some h ≡ true → hit_answer e h ≡ (search id_width e (store id_width s) x).answer
+      found_first t = sym (only_pass ∙ hit_or e h _ t)
+
+      pub found_last : is_some h ≡ false → last_answer e s x ≡ (search id_width e (store id_width s) x).answer
+      found_last t = sym (only_pass ∙ no_hit_or e h _ t)

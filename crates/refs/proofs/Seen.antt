@@ -4,41 +4,30 @@ use Prim.Native.Nat.{ℕ, zero, suc, ◌+◌, ◌-◌, ◌≤◌, ◌<◌}
 use native.Mathlib.Numerals.{add-one}
 use native.Mathlib.Omega.{arith}
 use mathlib.Core.List.{List, [], ◌∷◌, ◌++◌, map}
-use mathlib.Core.Bool.{Bool, true, false, ◌||◌, true≢false, false≢true}
-use lib.ListN.{length, take, drop, get_or, set, drop_of_length-le}
-use lib.Seq.{drop-cons, take-suc-set}
+use mathlib.Core.Bool.{Bool, true, false, ◌||◌}
+use lib.ListN.{length, take, set}
+use lib.Seq.{take-suc-set}
+use Rattle.std.specs.Prelude.{nat_eq}
+use Rattle.std.specs.List.{list_any}
+use Rattle.std.specs.Cmp.Lexicographic.{pointwise}
 use Rattle.names.specs.Bytes.{Bytes, same}
 use Rattle.names.specs.Means.{content}
 use Rattle.names.specs.declared.name.Name.{Name}
+use Rattle.names.proofs.Slices.{same_is}
 use Rattle.blocks.specs.Content.{Target, object, symbolic}
 use Rattle.blocks.specs.Snapshot.{Snapshot, Store, store}
 use Rattle.blocks.specs.Means.{id_width}
 use Rattle.refs.specs.Answer.{Reference, Answer, nothing, found, refused}
 use Rattle.refs.specs.Search.{search}
-use Rattle.refs.specs.Follow.{Followed, stopped, on_target, on_answer, max_ref_depth, among, follow_from, follow_answer}
-use Rattle.refs.specs.Means.{target_of, answer_with, reference_of, followed_of}
-use Rattle.refs.specs.Promises.{is_object, is_found, ending_of, start_of, search_answer}
-use Rattle.refs.specs.declared.raw.Kind.{Kind}
-use Rattle.refs.specs.declared.raw.Kind.TheVariants.{Object, Symbolic}
-use Rattle.refs.specs.declared.raw.Outcome.{Outcome}
-use Rattle.refs.specs.declared.raw.Outcome.TheVariants as outcome
-use Rattle.refs.specs.declared.raw.Reference as code
-use Rattle.refs.specs.declared.raw_ext.Ending.TheVariants as ending
+use Rattle.refs.specs.Follow.{Followed, not_there, reached, stopped, barred, on_target, on_answer, max_ref_depth, among, follow_from, following}
 
 -- ---- the array
 
--- a name for places that are not there
-abbrev pub no_name : Name
-no_name = record { bytes = []; len = 0 }
-
-module _ (l : List Name) (i : ℕ) (x : Bytes) where
-  pub among_at : i < length l → among x (map content (drop i l)) ≡ (same (content (get_or l i no_name)) x || among x (map content (drop (i + 1) l)))
-  unfolding among
-  among_at h = rw (add-one, drop-cons l i no_name h)
-
-  pub among_end : length l ≤ i → among x (map content (drop i l)) ≡ false
-  unfolding among
-  among_end h = rw (drop_of_length-le l h)
+-- a name is one of those in a list
+pub contains_among : (x : Name) (l : List Name) → list_any (λ y. pointwise nat_eq (content y) (content x)) l ≡ among (content x) (map content l)
+unfolding among
+contains_among x [] = refl
+contains_among x (y ∷ l) = rw (same_is (content y) (content x), contains_among x l)
 
 map_snoc : (l : List Name) (x : Name) → map content (l ++ (x ∷ [])) ≡ map content l ++ (content x ∷ [])
 map_snoc [] x = refl
@@ -88,59 +77,44 @@ module _ (width : ℕ) (e : Bytes) (s : Store) where
 
 -- ---- the turns of following
 
-object_kind : (k : Kind) → is_object k ≡ true → k ≡ Object
-object_kind Object g = refl
-object_kind Symbolic g = absurd (false≢true g)
-
-symbolic_kind : (k : Kind) → is_object k ≡ false → k ≡ Symbolic
-symbolic_kind Object g = absurd (true≢false g)
-symbolic_kind Symbolic g = refl
-
-pub found_outcome : (o : Outcome) → is_found o ≡ true → o ≡ outcome.Found
-found_outcome outcome.Nothing f = absurd (false≢true f)
-found_outcome outcome.Found f = refl
-found_outcome (outcome.Refused why) f = absurd (false≢true f)
-
 module _ (e : Bytes) (s : Snapshot) where
   -- following after n names
   abbrev pub after_names : ℕ → List Bytes → Reference → Followed
   after_names n seen r = follow_from id_width e (store id_width s) (max_ref_depth - n) seen r
 
-  module _ (n : ℕ) (h : n < max_ref_depth) (seen : List Bytes) (r : code.Reference) where
+  module _ (n : ℕ) (h : n < max_ref_depth) (seen : List Bytes) (r : Reference) where
     -- from the next reference on
     abbrev goes : Reference → Followed
     goes x = after_names (n + 1) (x.name ∷ seen) x
 
-    turned : after_names n seen (reference_of r) ≡ on_target (reference_of r) (target_of r.kind r.id.digits (content r.target)) (λ t. on_answer seen (reference_of r) (search_answer e s t) goes)
+    turned : after_names n seen r ≡ on_target r r.target (λ t. on_answer seen r (search id_width e (store id_width s) t).answer goes)
     unfolding follow_from
     turned = let k : max_ref_depth - n ≡ suc (max_ref_depth - (n + 1)) = omega arith in rw k
 
-    pub object_ends : is_object r.kind ≡ true → followed_of ending.Reached r ≡ after_names n seen (reference_of r)
-    object_ends g = sym (turned ∙ rw (object_kind r.kind g))
+    pub object_ends : (id : Bytes) → r.target ≡ object id → reached id r ≡ after_names n seen r
+    object_ends id g = sym (turned ∙ rw g)
 
-    module _ (g : is_object r.kind ≡ false) (a : Answer) (q : search_answer e s (content r.target) ≡ a) where
-      searched : after_names n seen (reference_of r) ≡ on_answer seen (reference_of r) a goes
-      searched = turned ∙ rw (symbolic_kind r.kind g, q)
+    module _ (t : Bytes) (g : r.target ≡ symbolic t) (a : Answer) (q : a ≡ (search id_width e (store id_width s) t).answer) where
+      searched : after_names n seen r ≡ on_answer seen r a goes
+      searched = turned ∙ rw (g, ← q)
 
-      pub not_found_ends : (o : Outcome) (x : Reference) → is_found o ≡ false → a ≡ answer_with o x → followed_of (ending_of o) r ≡ after_names n seen (reference_of r)
-      not_found_ends o x f k = sym (searched ∙ rw k (go o f))
-        where
-          go : (o : Outcome) → is_found o ≡ false → on_answer seen (reference_of r) (answer_with o x) goes ≡ followed_of (ending_of o) r
-          go outcome.Nothing f = refl
-          go outcome.Found f = absurd (true≢false f)
-          go (outcome.Refused why) f = refl
+      pub not_found_ends : a ≡ nothing → stopped 13 r ≡ after_names n seen r
+      not_found_ends k = sym (searched ∙ rw k)
 
-      module _ (x : code.Reference) (k : a ≡ found (reference_of x)) where
-        pub cycle_ends : among (content x.name) seen ≡ true → stopped 14 (reference_of r) ≡ after_names n seen (reference_of r)
+      pub refused_ends : (k : ℕ) → a ≡ refused k → barred k ≡ after_names n seen r
+      refused_ends k f = sym (searched ∙ rw f)
+
+      module _ (x : Reference) (k : a ≡ found x) where
+        pub cycle_ends : among x.name seen ≡ true → stopped 14 r ≡ after_names n seen r
         cycle_ends m = sym (searched ∙ rw (k, m))
 
         -- the next name goes to the end of those seen
-        pub goes_on : among (content x.name) seen ≡ false → after_names n seen (reference_of r) ≡ after_names (n + 1) (seen ++ (content x.name ∷ [])) (reference_of x)
+        pub goes_on : among x.name seen ≡ false → after_names n seen r ≡ after_names (n + 1) (seen ++ (x.name ∷ [])) x
         goes_on m =
             searched
             ∙ rw (k, m)
-            (follow_alike id_width e (store id_width s) (max_ref_depth - (n + 1)) (content x.name ∷ seen) (seen ++ (content x.name ∷ []))
-            (λ y. sym (among_snoc y (content x.name) seen)) (reference_of x))
+            (follow_alike id_width e (store id_width s) (max_ref_depth - (n + 1)) (x.name ∷ seen) (seen ++ (x.name ∷ []))
+            (λ y. sym (among_snoc y x.name seen)) x)
 
   pub depth_reached : (n : ℕ) → max_ref_depth ≤ n → (seen : List Bytes) (r : Reference) → stopped 15 r ≡ after_names n seen r
   unfolding follow_from
@@ -148,7 +122,15 @@ module _ (e : Bytes) (s : Snapshot) where
 
   -- ---- the first search
 
-  pub start_ends : (r : code.Reference) (o : Outcome) (x : Reference) → is_found o ≡ false → followed_of (start_of o) r ≡ follow_answer id_width e (store id_width s) (answer_with o x)
-  start_ends r outcome.Nothing x f = refl
-  start_ends r outcome.Found x f = absurd (true≢false f)
-  start_ends r (outcome.Refused why) x f = refl
+  module _ (x : Bytes) (a : Answer) (h : a ≡ (search id_width e (store id_width s) x).answer) where
+    pub starts_nowhere : a ≡ nothing → not_there ≡ following id_width e (store id_width s) x
+    unfolding following
+    starts_nowhere k = rw (← h, k)
+
+    pub starts_refused : (k : ℕ) → a ≡ refused k → barred k ≡ following id_width e (store id_width s) x
+    unfolding following
+    starts_refused j k = rw (← h, k)
+
+    pub starts_found : (r : Reference) → a ≡ found r → follow_from id_width e (store id_width s) max_ref_depth [] r ≡ following id_width e (store id_width s) x
+    unfolding following
+    starts_found r k = rw (← h, k)

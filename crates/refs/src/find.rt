@@ -1,434 +1,184 @@
 // Search (find.rs).
-ghost use Rattle.std.specs.Prelude.{◌≡◌, ◌++◌, true, drop};
-ghost use Rattle.names.specs.Bytes.{Bytes};
+ghost use Rattle.std.specs.Prelude.{◌≡◌, map, true, Some};
+ghost use Rattle.std.specs.Option.{option_map};
 ghost use Rattle.names.specs.Candidates.{full_name};
-ghost use Rattle.names.specs.Means.{filled, if_fits, base_of};
-ghost use Rattle.blocks.specs.Means.{id_width, region_of, if_there, snapshot_of};
-ghost use Rattle.refs.specs.Search.{find};
-ghost use Rattle.refs.specs.Means.{gated, answer_only, answered};
-ghost use Rattle.refs.specs.Answer.{nothing};
-ghost use Rattle.refs.specs.Promises.{Flawless, FitRegions, IndexOf, ClashOf, PackedIndex, region_read, candidate_answer, between, is_somewhere, FlawlessPlace, PlaceOf, FilledPlace, filled_len, HitOf, looked_up, pass_names, PassHit, last_answer, search_answer, PlaceSaid, HitReference};
+ghost use Rattle.blocks.specs.Snapshot.{store};
+ghost use Rattle.blocks.specs.Means.{id_width, snapshot_of, entry_as};
+ghost use Rattle.refs.specs.Answer.{Answer};
+ghost use Rattle.refs.specs.Search.{entry_for, find, search};
+ghost use Rattle.refs.specs.Means.{answer_only, found_of};
+ghost use Rattle.refs.specs.Promises.{candidate, looked_up, first_of, full_names, or_answer, last_answer, hit_answer, refused_or};
+ghost use Rattle.refs.specs.declared.find.FindError.TheVariants as why;
 
-use crate::check::{Gate, check_call, is_passed};
-use crate::place::{Place, block_in, content_in, name_in, part, region_in};
-use crate::raw::{
-    Answered, Outcome, Reference, Said, answer_name, no_reference, reference_with, says,
-};
-use blocks::block::{BLOCK_SIZE, Region, block_name, sound_kind};
-use names::bytes::{Order, compare_joined, directory_joined, equal};
-use names::find::{Base, Packed, to_base_dir_and_relative_name, transform_full_name_for_lookup};
-use names::name::{
-    Filled, LONGEST, Name, construct_full_name_ref, empty, front, is_pseudo_ref, lend,
-    remote_head_candidate,
-};
+use crate::check::{CallError, check_call};
+use crate::fit::{BlockEntry, FitSnapshot};
+use crate::raw::{Reason, Reference};
+use blocks::snapshot::Snapshot;
+use names::bytes::{Joined, equal};
+use names::find::{to_base_dir_and_relative_name, transform_full_name_for_lookup};
+use names::name::{Name, construct_full_name_ref, is_pseudo_ref, remote_head_candidate};
 
-// The number of a block, if there is one.
+// What stands between `refs/` and a partial name, in the order in which candidates are tried.
+const DIRECTORIES: [&[u8]; 4] = [b"", b"tags/", b"heads/", b"remotes/"];
+
+// Why a search or following gives no answer: the call is turned away, or the entry that decides is refused, 9 to 12.
+#[derive(Debug, Clone, Copy, PartialEq, Eq)]
+pub enum FindError {
+    Call(CallError),
+    Entry(Reason),
+}
+
+impl From<CallError> for FindError {
+    ghost from_gives = { λ e r. r ≡ why.Call e };
+
+    fn from(e: CallError) -> FindError {
+        FindError::Call(e)
+    }
+}
+
+impl From<Reason> for FindError {
+    ghost from_gives = { λ e r. r ≡ why.Entry e };
+
+    fn from(e: Reason) -> FindError {
+        FindError::Entry(e)
+    }
+}
+
+// A candidate and the entry that decides it.
 #[derive(Clone, Copy)]
-pub enum Index {
-    At(usize),
-    Nothing,
+pub(crate) struct Hit<'a> {
+    pub(crate) name: Name,
+    pub(crate) entry: BlockEntry<'a>,
 }
 
-// The block of a region fit for search that bears the name e, n: by halves, since names rise.
-fn block_of(s: &[u8], e: &[u8], n: &[u8]) -> Index
-    ensures { IndexOf (e.now ++ n.now) s.now result }
-{
-    let mut lo: usize = 0;
-    let mut hi: usize = s.len() / BLOCK_SIZE;
-    while lo < hi {
-        let mid = lo + (hi - lo) / 2;
-        let o = compare_joined(block_name(s, mid), e, n);
-        match o {
-            Order::Less => lo = mid + 1,
-            Order::Equal => return Index::At(mid),
-            Order::Greater => hi = mid,
-        }
-    }
-    Index::Nothing
-}
-
-// Whether a loose file of a region fit for search is a proper directory of the path e, n.
-fn has_clash(s: &[u8], e: &[u8], n: &[u8]) -> bool
-    ensures { ClashOf (e.now ++ n.now) s.now result }
-{
-    let count = s.len() / BLOCK_SIZE;
-    let mut i: usize = 0;
-    while i < count {
-        if directory_joined(block_name(s, i), e, n) {
-            return true;
-        }
-        i += 1;
-    }
-    false
-}
-
-// What stands from byte off of s on: nothing, past its end.
-fn tail(s: &[u8], off: usize) -> &[u8]
-    ensures { result.now ≡ drop off s.now }
-{
-    if off <= s.len() {
-        return &s[off..];
-    }
-    &s[0..0]
-}
-
-// The packed record of a candidate s, where it is sought packed.
-fn packed_index(packed: &[u8], e: &[u8], s: &[u8], seek: bool) -> Index
-    requires { Flawless (region_of Region.Packed) packed.now }
-    ensures { PackedIndex e.now s.now seek packed.now result }
-{
-    if !seek {
-        return Index::Nothing;
-    }
-    let name = transform_full_name_for_lookup(s);
-    match name {
-        Packed::Never => Index::Nothing,
-        Packed::From(off) => block_of(packed, e, tail(s, off)),
+impl<'a> Hit<'a> {
+    // The reference that the entry says, without the namespace's expansion e.
+    pub(crate) fn reference(&self, e: &[u8]) -> Result<Reference, Reason>
+        ensures { refused_or result ≡ hit_answer e.now (Some self.now) }
+    {
+        let parts = self.entry.says(self.name.as_bytes())?;
+        Ok(parts.without(e))
     }
 }
 
-// The loose region that is read: the common one for a shared name, where there is one.
-fn region_read(base: Base, has_common: bool) -> Region
-    ensures { region_of result ≡ region_read (base_of base) has_common }
-{
-    match base {
-        Base::Own => Region::Worktree,
-        Base::Shared => {
-            if has_common {
-                Region::Common
-            } else {
-                Region::Worktree
-            }
-        }
-    }
-}
-
-fn is_somewhere(place: Place) -> bool
-    ensures { result ≡ is_somewhere place }
-{
-    match place {
-        Place::Nowhere => false,
-        Place::In {
-            region: _,
-            block: _,
-        } => true,
-    }
-}
-
-// The block that the candidate s finds in regions fit for search.
-fn lookup<'a>(
-    worktree: &'a [u8],
-    common: &'a [u8],
-    has_common: bool,
-    packed: &'a [u8],
+// The entry that decides a candidate: none, where a loose file is a proper directory of its path; else the exact loose file;
+// else the packed record, where it is sought packed.
+fn entry_for<'a>(
+    s: FitSnapshot<'a>,
     e: &[u8],
-    s: &[u8],
-    seek: bool,
-) -> Place
-    requires { FitRegions (snapshot_of worktree.now (if_there has_common common.now) packed.now) }
-    ensures { PlaceOf e.now worktree.now common.now packed.now s.now result (candidate_answer e.now (snapshot_of worktree.now (if_there has_common common.now) packed.now) s.now seek) }
+    name: &[u8],
+    sought_packed: bool,
+) -> Option<BlockEntry<'a>>
+    ensures { option_map (λ b. entry_as b.entry) result ≡ entry_for e.now (store id_width (snapshot_of s.entry.snapshot)) (candidate name.now sought_packed) }
 {
-    let route = to_base_dir_and_relative_name(s);
-    let base = route.base;
-    let off = route.off;
-    let region = region_read(base, has_common);
-    let loose = part(worktree, common, packed, region);
-    let path = tail(s, off);
-    if has_clash(loose, e, path) {
-        return Place::Nowhere;
+    let (base, path) = to_base_dir_and_relative_name(name);
+    let loose = s.loose(base);
+    let path = Joined {
+        first: e,
+        rest: path,
+    };
+    if loose.has_clash(path) {
+        return None;
     }
-    let i = block_of(loose, e, path);
-    match i {
-        Index::At(k) => Place::In { region, block: k },
-        Index::Nothing => {
-            let j = packed_index(packed, e, s, seek);
-            match j {
-                Index::At(k) => Place::In {
-                    region: Region::Packed,
-                    block: k,
-                },
-                Index::Nothing => Place::Nowhere,
-            }
-        }
+    let file = loose.entry_of(path);
+    if file.is_some() {
+        return file;
     }
+    if !sought_packed {
+        return None;
+    }
+    let packed = transform_full_name_for_lookup(name)?;
+    s.packed().entry_of(Joined {
+        first: e,
+        rest: packed,
+    })
 }
 
-// The same for a candidate that was put into b: nothing, where it did not fit.
-fn lookup_filled<'a>(
-    worktree: &'a [u8],
-    common: &'a [u8],
-    has_common: bool,
-    packed: &'a [u8],
-    e: &[u8],
-    b: &[u8; LONGEST],
-    f: Filled,
-    seek: bool,
-) -> Place
-    requires { FitRegions (snapshot_of worktree.now (if_there has_common common.now) packed.now) }
-    ensures { FilledPlace e.now worktree.now common.now packed.now (snapshot_of worktree.now (if_there has_common common.now) packed.now) b.now f seek result }
-{
-    match f {
-        Filled::To(len) => lookup(worktree, common, has_common, packed, e, front(b, len), seek),
-        Filled::TooLong => Place::Nowhere,
-    }
-}
-
-fn filled_len(f: Filled) -> usize
-    ensures { result ≡ filled_len f }
-{
-    match f {
-        Filled::To(len) => len,
-        Filled::TooLong => 0,
-    }
-}
-
-// A candidate and the block that it finds. An answer is too large to be handed on, so it is made of these, once, at the end.
-#[derive(Clone, Copy)]
-pub struct Hit {
-    pub place: Place,
-    pub name: Name,
-}
-
-fn no_hit() -> Hit
-    ensures { (e w c p : Bytes) → HitOf e w c p result nothing }
-{
-    let name = empty();
-    Hit {
-        place: Place::Nowhere,
-        name,
-    }
-}
-
-// Puts the candidate for x with directory d in between.
-fn put_candidate(out: &mut [u8; LONGEST], x: &[u8], d: usize, pseudo: bool) -> Filled
-    ensures { filled out.new result ≡ if_fits (full_name pseudo (between d) x.now) }
-{
-    match d {
-        1 => construct_full_name_ref(out, x, b"tags/", pseudo),
-        2 => construct_full_name_ref(out, x, b"heads/", pseudo),
-        3 => construct_full_name_ref(out, x, b"remotes/", pseudo),
-        _ => construct_full_name_ref(out, x, b"", pseudo),
-    }
-}
-
-// What directory d of a pass finds.
+// What the candidate for x with a directory in between finds.
 fn try_directory<'a>(
-    worktree: &'a [u8],
-    common: &'a [u8],
-    has_common: bool,
-    packed: &'a [u8],
+    s: FitSnapshot<'a>,
     e: &[u8],
     x: &[u8],
-    d: usize,
+    between: &[u8],
     pseudo: bool,
-) -> Hit
-    requires { FitRegions (snapshot_of worktree.now (if_there has_common common.now) packed.now) }
-    ensures { HitOf e.now worktree.now common.now packed.now result (looked_up e.now (snapshot_of worktree.now (if_there has_common common.now) packed.now) (full_name pseudo (between d) x.now) true) }
+) -> Option<Hit<'a>>
+    ensures { hit_answer e.now result ≡ looked_up e.now (snapshot_of s.entry.snapshot) (full_name pseudo between.now x.now) true }
 {
-    let mut name = empty();
-    let f = put_candidate(&mut name.bytes, x, d, pseudo);
-    let len = filled_len(f);
-    name.len = len;
-    let place = lookup_filled(
-        worktree,
-        common,
-        has_common,
-        packed,
-        e,
-        &name.bytes,
-        f,
-        true,
-    );
-    Hit { place, name }
+    let name = construct_full_name_ref(x, between, pseudo)?;
+    let entry = entry_for(s, e, name.as_bytes(), true)?;
+    Some(Hit { name, entry })
 }
 
-// One pass over the four directories; left early after the first, where only that counts.
+// One pass over some directories.
 fn one_pass<'a>(
-    worktree: &'a [u8],
-    common: &'a [u8],
-    has_common: bool,
-    packed: &'a [u8],
+    s: FitSnapshot<'a>,
     e: &[u8],
     x: &[u8],
+    directories: &[&[u8]],
     pseudo: bool,
-    one: bool,
-) -> Hit
-    requires { FitRegions (snapshot_of worktree.now (if_there has_common common.now) packed.now) }
-    ensures { PassHit e.now worktree.now common.now packed.now (snapshot_of worktree.now (if_there has_common common.now) packed.now) (pass_names pseudo one x.now) result }
+) -> Option<Hit<'a>>
+    ensures { (rest : Answer) → first_of e.now (snapshot_of s.entry.snapshot) (full_names pseudo x.now directories.now) rest ≡ or_answer (hit_answer e.now result) rest }
 {
-    let mut d: usize = 0;
-    'try_directories: while d < 4 {
-        let h = try_directory(worktree, common, has_common, packed, e, x, d, pseudo);
-        let place = h.place;
-        if is_somewhere(place) {
-            return h;
+    for between in directories {
+        let hit = try_directory(s, e, x, between, pseudo);
+        if hit.is_some() {
+            return hit;
         }
-        if one {
-            break 'try_directories;
-        }
-        d += 1;
     }
-    no_hit()
+    None
 }
 
 // What the last candidate finds, x/HEAD below remotes: there is none for HEAD, and it is never sought packed.
-fn try_remote_head<'a>(
-    worktree: &'a [u8],
-    common: &'a [u8],
-    has_common: bool,
-    packed: &'a [u8],
-    e: &[u8],
-    x: &[u8],
-) -> Hit
-    requires { FitRegions (snapshot_of worktree.now (if_there has_common common.now) packed.now) }
-    ensures { HitOf e.now worktree.now common.now packed.now result (last_answer e.now (snapshot_of worktree.now (if_there has_common common.now) packed.now) x.now) }
+fn try_remote_head<'a>(s: FitSnapshot<'a>, e: &[u8], x: &[u8]) -> Option<Hit<'a>>
+    ensures { hit_answer e.now result ≡ last_answer e.now (snapshot_of s.entry.snapshot) x.now }
 {
     if equal(x, b"HEAD") {
-        return no_hit();
+        return None;
     }
-    let mut name = empty();
-    let f = remote_head_candidate(&mut name.bytes, x);
-    let len = filled_len(f);
-    name.len = len;
-    let place = lookup_filled(
-        worktree,
-        common,
-        has_common,
-        packed,
-        e,
-        &name.bytes,
-        f,
-        false,
-    );
-    Hit { place, name }
+    let name = remote_head_candidate(x)?;
+    let entry = entry_for(s, e, name.as_bytes(), false)?;
+    Some(Hit { name, entry })
 }
 
-// Search for the partial name x, unchecked, in regions fit for search. A second pass begins only when the first was left
-// early: then pseudo names are no longer considered.
+// Search for the partial name x, unchecked. Of a pseudo name the first pass tries only itself; a second pass no longer considers
+// pseudo names.
 pub(crate) fn find_one_with_verified_input<'a>(
-    worktree: &'a [u8],
-    common: &'a [u8],
-    has_common: bool,
-    packed: &'a [u8],
+    s: FitSnapshot<'a>,
     e: &[u8],
     x: &[u8],
-) -> Hit
-    requires { FitRegions (snapshot_of worktree.now (if_there has_common common.now) packed.now) }
-    ensures { HitOf e.now worktree.now common.now packed.now result (search_answer e.now (snapshot_of worktree.now (if_there has_common common.now) packed.now) x.now) }
+) -> Option<Hit<'a>>
+    ensures { hit_answer e.now result ≡ (search id_width e.now (store id_width (snapshot_of s.entry.snapshot)) x.now).answer }
 {
-    let pseudo = is_pseudo_ref(x);
-    let a = one_pass(worktree, common, has_common, packed, e, x, true, pseudo);
-    let first = a.place;
-    if is_somewhere(first) {
-        return a;
+    if is_pseudo_ref(x) {
+        let itself = one_pass(s, e, x, &DIRECTORIES[..1], true);
+        if itself.is_some() {
+            return itself;
+        }
+        let hit = one_pass(s, e, x, &DIRECTORIES, false);
+        if hit.is_some() {
+            return hit;
+        }
+        return try_remote_head(s, e, x);
     }
-    if !pseudo {
-        return try_remote_head(worktree, common, has_common, packed, e, x);
+    let hit = one_pass(s, e, x, &DIRECTORIES, true);
+    if hit.is_some() {
+        return hit;
     }
-    let b = one_pass(worktree, common, has_common, packed, e, x, false, false);
-    let second = b.place;
-    if is_somewhere(second) {
-        return b;
-    }
-    try_remote_head(worktree, common, has_common, packed, e, x)
-}
-
-// What the block of a place in a region fit for search says.
-pub(crate) fn said_of<'a>(
-    worktree: &'a [u8],
-    common: &'a [u8],
-    packed: &'a [u8],
-    place: Place,
-) -> Said
-    requires { FlawlessPlace worktree.now common.now packed.now place }
-    ensures { PlaceSaid worktree.now common.now packed.now place result }
-{
-    let kind = sound_kind(region_in(worktree, common, packed, place), block_in(place));
-    says(kind, content_in(worktree, common, packed, place))
-}
-
-// The reference that it says.
-pub(crate) fn reference_of<'a>(
-    worktree: &'a [u8],
-    common: &'a [u8],
-    packed: &'a [u8],
-    e: &[u8],
-    h: Hit,
-    said: Said,
-) -> Reference
-    ensures { HitReference e.now worktree.now common.now packed.now h said result }
-{
-    let place = h.place;
-    let own = name_in(worktree, common, packed, place);
-    let file = content_in(worktree, common, packed, place);
-    let len = h.name.len;
-    let n = answer_name(lend(&h.name.bytes, len), own, said.from_packed);
-    let kind = said.kind;
-    reference_with(kind, said.has_peeled, n, file, e)
-}
-
-// What a search gives: the answer counts where the call passed its checks.
-#[derive(Clone, Copy)]
-pub struct Found {
-    pub gate: Gate,
-    pub answer: Answered,
+    try_remote_head(s, e, x)
 }
 
 // Search for a partial name, in a namespace or in none: refused 1 to 8, not there, refused 9 to 12, or the reference.
-pub fn find<'a>(
-    worktree: &'a [u8],
-    common: &'a [u8],
-    has_common: bool,
-    packed: &'a [u8],
+pub fn find(
+    snapshot: Snapshot,
     name: &[u8],
-    namespace: &[u8],
-    has_namespace: bool,
-) -> Found
-    ensures { gated result.gate (answered result.answer) ≡ answer_only (find id_width (snapshot_of worktree.now (if_there has_common common.now) packed.now) name.now (if_there has_namespace namespace.now)) }
+    namespace: Option<&[u8]>,
+) -> Result<Option<Reference>, FindError>
+    ensures { found_of result ≡ answer_only (find id_width (snapshot_of snapshot.entry) name.now (option_map (λ s. s.now) namespace.entry)) }
 {
-    let call = check_call(
-        worktree,
-        common,
-        has_common,
-        packed,
-        name,
-        namespace,
-        has_namespace,
-    );
-    let gate = call.gate;
-    if !is_passed(gate) {
-        let answer = no_answer();
-        return Found { gate, answer };
-    }
-    let len = call.expansion.len;
-    let h = find_one_with_verified_input(
-        worktree,
-        common,
-        has_common,
-        packed,
-        lend(&call.expansion.bytes, len),
-        name,
-    );
-    let place = h.place;
-    let said = said_of(worktree, common, packed, place);
-    let outcome = said.outcome;
-    let reference = reference_of(
-        worktree,
-        common,
-        packed,
-        lend(&call.expansion.bytes, len),
-        h,
-        said,
-    );
-    let answer = Answered { outcome, reference };
-    Found { gate, answer }
-}
-
-// What stands beside a check that turned the call away.
-fn no_answer() -> Answered {
-    let reference = no_reference();
-    Answered {
-        outcome: Outcome::Nothing,
-        reference,
+    let call = check_call(snapshot, name, namespace)?;
+    let e = call.expansion.as_bytes();
+    match find_one_with_verified_input(call.snapshot, e, name) {
+        Some(hit) => Ok(Some(hit.reference(e)?)),
+        None => Ok(None),
     }
 }

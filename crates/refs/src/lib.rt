@@ -3,8 +3,8 @@
 
 pub mod check;
 pub mod find;
+mod fit;
 pub mod overlay_iter;
 pub mod packed;
-pub mod place;
 pub mod raw;
 pub mod raw_ext;

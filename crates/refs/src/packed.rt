@@ -1,9 +1,11 @@
-// A reader of the packed region (packed::Iter): the region's slice and a block position. The work is in kind_at, on the slice
-// and the number.
+// A reader of the packed region (packed::Iter): what its blocks hold, from a position on.
 ghost use Rattle.std.specs.Prelude.{◌≡◌};
-ghost use Rattle.refs.specs.Means.{RecordKind};
+ghost use Rattle.std.specs.Option.{option_map};
+ghost use Rattle.std.specs.Iterator.{YieldsFirstBy, item_count};
+ghost use Rattle.blocks.specs.Means.{entry_as};
+ghost use Rattle.refs.specs.Means.{record_in, records_of};
 
-use blocks::block::{EntryKind, Region, entry_kind};
+use blocks::block::{Entry, Region, entry_at};
 
 #[derive(Clone, Copy)]
 pub struct PackedReader<'a> {
@@ -11,19 +13,18 @@ pub struct PackedReader<'a> {
     pub at: usize,
 }
 
-// What stands at block k of a packed region.
-pub fn kind_at(region: &[u8], k: usize) -> EntryKind
-    ensures { RecordKind region.now k result }
-{
-    entry_kind(region, Region::Packed, k)
-}
-
 impl<'a> PackedReader<'a> {
-    // What stands at the reader's position.
-    pub fn step(self) -> EntryKind
-        ensures { RecordKind self.entry.region.now self.entry.at result }
+    pub fn new(region: &'a [u8], at: usize) -> PackedReader<'a>
+        ensures { (result.region ≡ region.entry) × (result.at ≡ at) }
     {
-        kind_at(self.region, self.at)
+        PackedReader { region, at }
+    }
+
+    // What stands at the reader's position: nothing, past the last block.
+    pub fn peek(self) -> Option<Entry<'a>>
+        ensures { option_map entry_as result ≡ record_in self.entry.region.now self.entry.at }
+    {
+        entry_at(self.region, Region::Packed, self.at)
     }
 
     // The reader at another position.
@@ -37,15 +38,17 @@ impl<'a> PackedReader<'a> {
     }
 }
 
-pub fn new<'a>(region: &'a [u8], at: usize) -> PackedReader<'a>
-    ensures { (result.region ≡ region.entry) × (result.at ≡ at) }
-{
-    PackedReader { region, at }
-}
+impl<'a> Iterator for PackedReader<'a> {
+    type Item = Entry<'a>;
 
-// What a reader of the region finds, for callers that hold no reader.
-pub fn read_at(region: &[u8], at: usize) -> EntryKind
-    ensures { RecordKind region.now at result }
-{
-    new(region, at).step()
+    ghost next_gives = { YieldsFirstBy entry_as records_of };
+
+    ghost remaining = { item_count records_of };
+
+    fn next(&mut self) -> Option<Entry<'a>> {
+        let region = self.region;
+        let found = entry_at(region, Region::Packed, self.at)?;
+        self.at += 1;
+        Some(found)
+    }
 }

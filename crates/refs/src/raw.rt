@@ -1,39 +1,21 @@
 // References and what an entry answers (raw.rs).
-ghost use Rattle.std.specs.Prelude.{◌≡◌, ◌≤◌, length, if◌then◌else◌};
-ghost use Rattle.names.specs.Bytes.{Bytes};
+ghost use Rattle.std.specs.Prelude.{◌≡◌, ◌≤◌, length, true};
+ghost use Rattle.std.specs.Option.{option_map};
 ghost use Rattle.names.specs.Name.{longest};
-ghost use Rattle.blocks.specs.Layout.{longest_content};
-ghost use Rattle.blocks.specs.Content.{read};
-ghost use Rattle.blocks.specs.Means.{id_width, refusal_number};
-ghost use Rattle.refs.specs.Answer.{nothing, found, refused, reading_says};
-ghost use Rattle.refs.specs.Means.{reason_number, reference_of, target_part, block_reference};
-ghost use Rattle.refs.specs.Promises.{packed_reference, said_answer, SaidBy};
+ghost use Rattle.blocks.specs.Means.{id_width, id_in, entry_as, refusal_number};
+ghost use Rattle.refs.specs.Whole.{target_in, target_of, target_fits};
+ghost use Rattle.refs.specs.Answer.{says, strip_target, strip_reference};
+ghost use Rattle.refs.specs.Reasons.{reason_number};
 
-use blocks::block::EntryKind;
-use blocks::decode::{Refusal, TargetKind, target_kind, target_name};
-use blocks::parse::{Id, id_of, second_id_of};
+use crate::fit::BlockEntry;
+use blocks::block::Entry;
+use blocks::decode::{Refusal, Target, TargetRef, read};
+use blocks::parse::{Id, id_of};
 use names::bytes::without;
-use names::name::{Name, empty, fill};
-
-#[derive(Clone, Copy)]
-pub enum Kind {
-    Object,
-    Symbolic,
-}
-
-// A reference: its name and its target, the id of an object or the name of another reference; and, from packed, the peeled id.
-#[derive(Clone, Copy)]
-pub struct Reference {
-    pub name: Name,
-    pub kind: Kind,
-    pub id: Id,
-    pub target: Name,
-    pub has_peeled: bool,
-    pub peeled: Id,
-}
+use names::name::Name;
 
 // Why an entry is refused: 6 and 7, 9 to 12.
-#[derive(Clone, Copy)]
+#[derive(Debug, Clone, Copy, PartialEq, Eq)]
 pub enum Reason {
     Damaged,
     ErrorKind,
@@ -44,182 +26,111 @@ pub enum Reason {
 }
 
 // The number of a reason in document 01's table.
-pub fn reason_number(why: Reason) -> u32
-    ensures { result ≡ reason_number why }
-{
-    match why {
-        Reason::Damaged => 6,
-        Reason::ErrorKind => 7,
-        Reason::Unread => 9,
-        Reason::Unreadable => 10,
-        Reason::Incomplete => 11,
-        Reason::Unsupported => 12,
+impl From<Reason> for u32 {
+    ghost from_gives = { λ why n. n ≡ reason_number why };
+
+    fn from(why: Reason) -> u32 {
+        match why {
+            Reason::Damaged => 6,
+            Reason::ErrorKind => 7,
+            Reason::Unread => 9,
+            Reason::Unreadable => 10,
+            Reason::Incomplete => 11,
+            Reason::Unsupported => 12,
+        }
     }
 }
 
+impl From<Refusal> for Reason {
+    ghost from_gives = { λ why r. reason_number r ≡ refusal_number why };
+
+    fn from(why: Refusal) -> Reason {
+        match why {
+            Refusal::Unreadable => Reason::Unreadable,
+            Refusal::Incomplete => Reason::Incomplete,
+            Refusal::Unsupported => Reason::Unsupported,
+        }
+    }
+}
+
+// A reference: its name and its target, the id of an object or the name of another reference; and, from packed, the peeled id.
 #[derive(Clone, Copy)]
-pub enum Outcome {
-    Nothing,
-    Found,
-    Refused(Reason),
+pub struct Reference {
+    pub name: Name,
+    pub target: Target,
+    pub peeled: Option<Id>,
 }
 
-// An answer: the reference counts where one is found.
+// A reference as parts of its block, with its ids as they stand there. So it is small, and is handed on.
 #[derive(Clone, Copy)]
-pub struct Answered {
-    pub outcome: Outcome,
-    pub reference: Reference,
+pub struct Parts<'a> {
+    pub name: &'a [u8],
+    pub target: TargetRef<'a>,
+    pub peeled: Option<&'a [u8]>,
+    ghost name_fits: { length name.now ≤ longest },
+    ghost target_fits: { target_fits (target_in target) ≡ true },
 }
 
-// What a block says of its reference, but for names and ids: the outcome, and where one is found its kind, whether it is a packed
-// record, which answers under its own name, and whether that has a peeled id.
-#[derive(Clone, Copy)]
-pub struct Said {
-    pub outcome: Outcome,
-    pub kind: Kind,
-    pub from_packed: bool,
-    pub has_peeled: bool,
-}
+impl<'a> BlockEntry<'a> {
+    ghost use Rattle.refs.specs.Means.{said};
 
-fn refused(why: Reason) -> Said
-    ensures { (n own file : Bytes) → said_answer result n own file ≡ refused (reason_number why) }
-{
-    Said {
-        outcome: Outcome::Refused(why),
-        kind: Kind::Object,
-        from_packed: false,
-        has_peeled: false,
+    // What an entry says: a loose file under the name n, a record under its own.
+    pub(crate) fn says(self, n: &'a [u8]) -> Result<Parts<'a>, Reason>
+        requires { length n.now ≤ longest }
+        ensures { said result ≡ says id_width n.entry.now (entry_as self.entry.entry) }
+    {
+        match self.entry {
+            Entry::Damaged => Err(Reason::Damaged),
+            Entry::Failed => Err(Reason::ErrorKind),
+            Entry::Loose { name: _, content } => Ok(Parts {
+                name: n,
+                target: read(content)?,
+                peeled: None,
+            }),
+            Entry::Unread { name: _ } => Err(Reason::Unread),
+            Entry::Record {
+                name,
+                target,
+                peeled,
+            } => Ok(Parts {
+                name,
+                target: TargetRef::Object(target),
+                peeled,
+            }),
+        }
     }
 }
 
-fn reason_of(why: Refusal) -> Reason
-    ensures { reason_number result ≡ refusal_number why }
+// A target of its own, without e in front of a name.
+#[tactic(auto, using(crate::proofs::Says::cut_stripped))]
+fn target_without(target: TargetRef, e: &[u8]) -> Target
+    requires { target_fits (target_in target) ≡ true }
+    ensures { target_of result ≡ strip_target e.now (target_in target.entry) }
 {
-    match why {
-        Refusal::Unreadable => Reason::Unreadable,
-        Refusal::Incomplete => Reason::Incomplete,
-        Refusal::Unsupported => Reason::Unsupported,
+    match target {
+        TargetRef::Object(id) => Target::Object(id_of(id)),
+        TargetRef::Symbolic(name) => Target::Symbolic(Name::cut(without(name, e))),
     }
 }
 
-// A loose file's target, or 10 to 12.
-fn loose(file: &[u8]) -> Said
-    ensures { (n own : Bytes) → said_answer result n own file.now ≡ reading_says n (read id_width file.now) }
+fn id_if_given(digits: Option<&[u8]>) -> Option<Id>
+    ensures { option_map (λ i. i.digits) result ≡ option_map (λ d. id_in id_width d.now) digits.entry }
 {
-    let kind = target_kind(file);
-    match kind {
-        TargetKind::Object => Said {
-            outcome: Outcome::Found,
-            kind: Kind::Object,
-            from_packed: false,
-            has_peeled: false,
-        },
-        TargetKind::Symbolic => Said {
-            outcome: Outcome::Found,
-            kind: Kind::Symbolic,
-            from_packed: false,
-            has_peeled: false,
-        },
-        TargetKind::Refused(why) => refused(reason_of(why)),
-    }
+    digits.map(id_of)
 }
 
-fn packed(has_peeled: bool) -> Said
-    ensures { (n own file : Bytes) → said_answer result n own file ≡ found (packed_reference has_peeled own file) }
-{
-    Said {
-        outcome: Outcome::Found,
-        kind: Kind::Object,
-        from_packed: true,
-        has_peeled,
-    }
-}
+impl<'a> Parts<'a> {
+    ghost use Rattle.refs.specs.Means.{parts_of, reference_of};
 
-// Past the last block.
-fn nothing() -> Said
-    ensures { (n own file : Bytes) → said_answer result n own file ≡ nothing }
-{
-    Said {
-        outcome: Outcome::Nothing,
-        kind: Kind::Object,
-        from_packed: false,
-        has_peeled: false,
-    }
-}
-
-// What the entry of a block with that content says.
-pub(crate) fn says(entry: EntryKind, file: &[u8]) -> Said
-    ensures { SaidBy entry file.now result }
-{
-    match entry {
-        EntryKind::End => nothing(),
-        EntryKind::Damaged => refused(Reason::Damaged),
-        EntryKind::Failed => refused(Reason::ErrorKind),
-        EntryKind::Loose => loose(file),
-        EntryKind::Unread => refused(Reason::Unread),
-        EntryKind::Record => packed(false),
-        EntryKind::PeeledRecord => packed(true),
-    }
-}
-
-// A loose file answers under the name n, a record under its own.
-pub(crate) fn answer_name<'a>(n: &'a [u8], own: &'a [u8], from_packed: bool) -> &'a [u8]
-    ensures { result.now ≡ (if from_packed then own.now else n.now) }
-{
-    if from_packed { own } else { n }
-}
-
-// The target's name in a content: none for an object.
-pub fn target_part(kind: Kind, file: &[u8]) -> &[u8]
-    ensures { result.now ≡ target_part kind file.now }
-{
-    match kind {
-        Kind::Object => &file[0..0],
-        Kind::Symbolic => target_name(file),
-    }
-}
-
-// The reference of a name and a content, without the namespace's expansion e in front of name and symbolic target. Its bytes
-// are put in place once: it is too large to be handed on in parts.
-pub(crate) fn reference_with(
-    kind: Kind,
-    has_peeled: bool,
-    n: &[u8],
-    file: &[u8],
-    e: &[u8],
-) -> Reference
-    requires { (length n.now ≤ longest) × (length file.now ≤ longest_content) }
-    ensures { reference_of result ≡ block_reference e.now kind has_peeled n.now file.now }
-{
-    let name = empty();
-    let target = empty();
-    let id = id_of(file);
-    let peeled = second_id_of(file);
-    let mut r = Reference {
-        name,
-        kind,
-        id,
-        target,
-        has_peeled,
-        peeled,
-    };
-    let name_len = fill(&mut r.name.bytes, without(n, e));
-    r.name.len = name_len;
-    let target_len = fill(&mut r.target.bytes, without(target_part(kind, file), e));
-    r.target.len = target_len;
-    r
-}
-
-// A reference that stands beside an answer without one.
-pub(crate) fn no_reference() -> Reference {
-    let name = empty();
-    let id = id_of(b"");
-    Reference {
-        name,
-        kind: Kind::Object,
-        id,
-        target: name,
-        has_peeled: false,
-        peeled: id,
+    // The reference, without the namespace's expansion e in front of name and symbolic target. It is too large to be handed on,
+    // so it is made of its parts once, at the end.
+    pub fn without(self, e: &[u8]) -> Reference
+        ensures { reference_of result ≡ strip_reference e.now (parts_of self.entry) }
+    {
+        Reference {
+            name: Name::cut(without(self.name, e)),
+            target: target_without(self.target, e),
+            peeled: id_if_given(self.peeled),
+        }
     }
 }

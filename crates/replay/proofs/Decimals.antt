@@ -1,20 +1,21 @@
 -- Numbers, digit by digit.
 use Rattle.std.specs.Prelude.{if◌then◌else◌}
-use mathlib.Core.Path.{◌≡◌, refl, sym}
+use mathlib.Core.Path.{◌≡◌, refl, sym, ◌∙◌}
 use mathlib.Core.Bool.{Bool, true, false, ◌&&◌}
 use mathlib.Core.List.{[], ◌∷◌}
-use Rattle.std.specs.Prelude.{None, Some}
-use Prim.Native.Nat.{ℕ, suc, ◌+◌, ◌*◌, ◌-◌, ◌≤◌, ◌<◌}
+use Rattle.std.specs.Prelude.{Option, None, Some}
+use Rattle.std.specs.Option.{SomeIff}
+use Prim.Native.Nat.{ℕ, suc, ◌+◌, ◌*◌, ◌-◌, ◌^◌, ◌≤◌, ◌<◌}
 use native.Mathlib.Omega.{arith}
-use borrow.Author.Tests.{le-leb, lt-leb, leb-true, leb-false}
+use borrow.Author.Tests.{le-leb, lt-leb, leb-false, leb-true}
 use native.Mathlib.Numerals.{add-one}
 use lib.Dec.{leb}
 use lib.ListN.{length, drop, get_or, drop_of_length-le}
 use lib.Seq.{drop-cons}
+use Rattle.std.specs.Char.{is_ascii_digit}
 use Rattle.names.specs.Bytes.{Bytes, every}
 use Rattle.names.proofs.Walks.{every_none, every_more}
-use Rattle.replay.specs.Input.{largest, is_decimal, digits_behind, number_behind, read_in}
-use Rattle.replay.specs.declared.input.Number.{Number}
+use Rattle.replay.specs.Input.{largest, is_decimal, digits_behind, number_behind}
 
 -- a digit more makes no number smaller
 grows : (s : Bytes) (v : ℕ) → v ≤ digits_behind v s
@@ -22,18 +23,10 @@ unfolding digits_behind
 grows [] v = omega arith
 grows (b ∷ s) v = let h = grows s (v * 10 + (b - 48)) in omega arith
 
-module _ (b : ℕ) where
-  pub decimal : 48 ≤ b → b ≤ 57 → is_decimal b ≡ true
-  unfolding is_decimal
-  decimal x y = simp (le-leb 48 b x, le-leb b 57 y)
-
-  pub decimal_below : b < 48 → is_decimal b ≡ false
-  unfolding is_decimal
-  decimal_below x = simp (lt-leb 48 b x)
-
-  pub decimal_above : 57 < b → is_decimal b ≡ false
-  unfolding is_decimal
-  decimal_above x = simp (le-leb 48 b (omega arith), lt-leb b 57 x)
+-- `b.is_ascii_digit()`
+pub decimal : (b : ℕ) → is_ascii_digit b ≡ is_decimal b
+unfolding is_decimal
+decimal b = refl
 
 module _ (v b : ℕ) (s : Bytes) where
   pub no_digit : is_decimal b ≡ false → number_behind v (b ∷ s) ≡ None
@@ -59,6 +52,11 @@ module _ (v b : ℕ) (s : Bytes) where
 pub nothing_behind : (v : ℕ) → v ≤ largest → number_behind v [] ≡ Some v
 unfolding number_behind digits_behind
 nothing_behind v h = rw (every_none is_decimal, le-leb v largest h)
+
+-- what `v * 10 + d`, checked, answers for a digit
+pub checked : (v b : ℕ) (o : Option ℕ) → is_decimal b ≡ true → SomeIff o (v * 10 + (b - 48) < 2 ^ 64) (v * 10 + (b - 48)) → o ≡ number_behind v (b ∷ [])
+checked v b None e h = sym (too_large v b [] (omega (arith, h)))
+checked v b (Some w) e h = rw h.1 (sym (goes_on v b [] e ∙ nothing_behind (v * 10 + (b - 48)) (omega (arith, h.0))))
 
 module _ (v b : ℕ) (s : Bytes) where
   -- what one digit says holds for all that follow
@@ -88,12 +86,12 @@ module _ (v b : ℕ) (s : Bytes) where
 -- ---- in a field, at place i
 
 module _ (s : Bytes) (i v : ℕ) where
-  pub stops_at : (n : Number) → i < length s → read_in n ≡ number_behind v (get_or s i 0 ∷ []) → n.ok ≡ false → number_behind v (drop i s) ≡ None
-  stops_at n h e f = rw (drop-cons s i 0 h) (stops v (get_or s i 0) (drop (suc i) s) (sym (rw f at e)))
+  pub stops_at : i < length s → number_behind v (get_or s i 0 ∷ []) ≡ None → number_behind v (drop i s) ≡ None
+  stops_at h e = rw (drop-cons s i 0 h) (stops v (get_or s i 0) (drop (suc i) s) e)
 
-  pub steps_at : (n : Number) → i < length s → read_in n ≡ number_behind v (get_or s i 0 ∷ []) → n.ok ≡ true
-      → (number_behind v (drop i s) ≡ number_behind n.value (drop (i + 1) s)) × (n.value ≤ largest)
-  steps_at n h e f = rw (add-one i, drop-cons s i 0 h) (steps v (get_or s i 0) (drop (suc i) s) n.value (sym (rw f at e)))
+  pub steps_at : (w : ℕ) → i < length s → number_behind v (get_or s i 0 ∷ []) ≡ Some w
+      → (number_behind v (drop i s) ≡ number_behind w (drop (i + 1) s)) × (w ≤ largest)
+  steps_at w h e = rw (add-one i, drop-cons s i 0 h) (steps v (get_or s i 0) (drop (suc i) s) w e)
 
   pub ends_at : length s ≤ i → v ≤ largest → number_behind v (drop i s) ≡ Some v
   ends_at h l = rw (drop_of_length-le s h) (nothing_behind v l)

@@ -1,9 +1,8 @@
 -- Byte strings and numbers, as a field of the vector format writes them.
-use Rattle.std.specs.Prelude.{ℕ, ◌+◌, ◌*◌, ◌-◌, ◌%◌, ◌^◌, ◌≡◌, [], ◌∷◌, Bool, false, ◌&&◌, ◌||◌, not, leb, eqb, length, take, if◌then◌else◌}
+use Rattle.std.specs.Prelude.{ℕ, ◌+◌, ◌*◌, ◌-◌, ◌%◌, ◌^◌, ◌≡◌, [], ◌∷◌, Bool, ◌&&◌, ◌||◌, not, leb, eqb, length, if◌then◌else◌}
 use Rattle.std.specs.Prelude.{Option, None, Some}
+use Rattle.std.specs.Option.{option_map}
 use Rattle.names.specs.Bytes.{Bytes, bytes, same, every}
-use Rattle.replay.specs.declared.input.Given.{Given}
-use Rattle.replay.specs.declared.input.Number.{Number}
 
 -- ---- byte strings
 
@@ -33,14 +32,10 @@ is_pairs s = not (eqb (length s) 0) && leb (length s) (most * 2) && eqb (length 
 unfoldable pub byte_string : Bytes → Option Bytes
 byte_string s = if same s (bytes "-") then Some [] else if is_pairs s then Some (pairs s) else None
 
--- what was read into an array
-abbrev pub given_in : Given → Bytes → Option Bytes
-given_in g to = if g.ok then Some (take g.len to) else None
-
--- A field was read into an array: it gives its byte string, or the array stays as it was.
-pub record Reads (s old new : Bytes) (g : Given) : Type 0 where
-  pub gives : given_in g new ≡ byte_string s
-  pub stays : g.ok ≡ false → new ≡ old
+-- A field was read into a room: it gives the byte string that is there now, or the room stays as it was.
+pub record Reads (s old new : Bytes) (r : Option Unit) : Type 0 where
+  pub gives : option_map (λ _. new) r ≡ byte_string s
+  pub stays : r ≡ None → new ≡ old
 
 -- ---- numbers
 
@@ -63,7 +58,3 @@ number_behind v s = if every is_decimal s && leb (digits_behind v s) largest the
 -- "one or more decimal digits without a sign, leading zeros allowed"
 unfoldable pub number_in : Bytes → Option ℕ
 number_in s = if eqb (length s) 0 then None else number_behind 0 s
-
--- the number that was read
-abbrev pub read_in : Number → Option ℕ
-read_in n = if n.ok then Some n.value else None

@@ -1,134 +1,92 @@
-// Answers are gathered in `out`, of whose bytes the first `n` wait to be written; each function answers the next `n`.
+// Answers wait here, and are written where no more of them fit.
 ghost use Rattle.std.specs.Prelude.{◌<◌};
 
+use arrayvec::ArrayVec;
 use blocks::parse::Id;
 use itoa::Buffer;
-use names::name::{Name, lend};
+use names::name::Name;
 
 const ROOM: usize = 65536;
 
-// Where answers wait, and what they are written to.
+const DIGITS: &[u8; 16] = b"0123456789abcdef";
+
+// What waits, and what it is written to.
 #[derive(Drop)]
 pub(crate) struct Pending<'a, P: Print> {
-    bytes: [u8; ROOM],
+    waiting: ArrayVec<u8, ROOM>,
     to: &'a P,
 }
 
-// Room for answers, none of which waits yet.
-pub(crate) fn pending_for<P: Print>(to: &P) -> Pending<'_, P> {
-    Pending {
-        bytes: [0; ROOM],
-        to,
+impl<'a, P: Print> Pending<'a, P> {
+    pub(crate) fn new(to: &'a P) -> Self {
+        Pending {
+            waiting: ArrayVec::new(),
+            to,
+        }
     }
-}
 
-// Writes what waits. A reader that went away is no matter here: what it does not take is dropped.
-pub(crate) fn flush(out: &Pending<'_, impl Print>, n: usize) -> usize {
-    let _ = out.to.write_all(lend(&out.bytes, n));
-    0
-}
-
-fn put_byte(out: &mut Pending<'_, impl Print>, n: usize, b: u8) -> usize {
-    if n < ROOM {
-        out.bytes[n] = b;
-        return n + 1;
+    // A reader that went away is no matter here: what it does not take is dropped.
+    pub(crate) fn flush(&mut self) {
+        let _ = self.to.write_all(&self.waiting);
+        self.waiting.clear();
     }
-    flush(out, n);
-    out.bytes[0] = b;
-    1
-}
 
-pub(crate) fn put(out: &mut Pending<'_, impl Print>, n: usize, s: &[u8]) -> usize {
-    let mut at = n;
-    for b in s {
-        at = put_byte(out, at, *b);
+    // What is longer than the room is written at once.
+    pub(crate) fn put(&mut self, s: &[u8]) {
+        if self.waiting.try_extend_from_slice(s).is_ok() {
+            return;
+        }
+        self.flush();
+        if self.waiting.try_extend_from_slice(s).is_err() {
+            let _ = self.to.write_all(s);
+        }
     }
-    at
-}
 
-fn hex_digit(x: u8) -> u8
-    requires { x < 16 }
-{
-    if x < 10 { 48 + x } else { 87 + x }
-}
-
-fn high_digit(b: u8) -> u8 {
-    hex_digit(b / 16)
-}
-
-fn low_digit(b: u8) -> u8 {
-    hex_digit(b % 16)
-}
-
-fn put_pairs(out: &mut Pending<'_, impl Print>, n: usize, s: &[u8]) -> usize {
-    let mut at = n;
-    for b in s {
-        at = put_byte(out, at, high_digit(*b));
-        at = put_byte(out, at, low_digit(*b));
+    pub(crate) fn put_line(&mut self, s: &[u8]) {
+        self.put(s);
+        self.put(b"\n");
     }
-    at
-}
 
-// A byte string, behind a space.
-pub(crate) fn put_bytes(out: &mut Pending<'_, impl Print>, n: usize, s: &[u8]) -> usize {
-    if s.len() == 0 {
-        return put(out, n, b" -");
+    // A byte string, behind a space.
+    pub(crate) fn put_bytes(&mut self, s: &[u8]) {
+        self.put(b" ");
+        if s.is_empty() {
+            self.put(b"-");
+        }
+        for b in s {
+            let pair = [DIGITS[usize::from(*b / 16)], DIGITS[usize::from(*b % 16)]];
+            self.put(&pair);
+        }
     }
-    let at = put(out, n, b" ");
-    put_pairs(out, at, s)
-}
 
-pub(crate) fn put_name(out: &mut Pending<'_, impl Print>, n: usize, name: Name) -> usize {
-    let b = name.bytes;
-    let len = name.len;
-    put_bytes(out, n, lend(&b, len))
-}
-
-// An id, behind a space.
-pub(crate) fn put_id(out: &mut Pending<'_, impl Print>, n: usize, id: Id) -> usize {
-    let d = id.digits;
-    let at = put(out, n, b" ");
-    put(out, at, &d)
-}
-
-// An id that may be absent.
-pub(crate) fn put_peeled(
-    out: &mut Pending<'_, impl Print>,
-    n: usize,
-    is_there: bool,
-    id: Id,
-) -> usize {
-    if is_there {
-        return put_id(out, n, id);
+    pub(crate) fn put_name(&mut self, name: &Name) {
+        self.put_bytes(name.as_bytes());
     }
-    put(out, n, b" ~")
-}
 
-// A number, behind a space.
-pub(crate) fn put_number(out: &mut Pending<'_, impl Print>, n: usize, x: usize) -> usize {
-    let mut text = Buffer::new();
-    let at = put(out, n, b" ");
-    put(out, at, text.format(x).as_bytes())
-}
+    // An id, behind a space.
+    pub(crate) fn put_id(&mut self, id: &Id) {
+        self.put(b" ");
+        self.put(&id.digits);
+    }
 
-// A whole line.
-pub(crate) fn put_line(out: &mut Pending<'_, impl Print>, n: usize, s: &[u8]) -> usize {
-    let at = put(out, n, s);
-    put(out, at, b"\n")
-}
+    pub(crate) fn put_peeled(&mut self, peeled: &Option<Id>) {
+        match peeled {
+            Some(id) => self.put_id(id),
+            None => self.put(b" ~"),
+        }
+    }
 
-// A refusal by its number, with no line end.
-pub(crate) fn put_refused(out: &mut Pending<'_, impl Print>, n: usize, number: u32) -> usize {
-    let at = put(out, n, b"refused");
-    put_number(out, at, number as usize)
-}
+    // A number, behind a space.
+    pub(crate) fn put_number(&mut self, x: usize) {
+        let mut text = Buffer::new();
+        self.put(b" ");
+        self.put(text.format(x).as_bytes());
+    }
 
-pub(crate) fn put_refused_line(out: &mut Pending<'_, impl Print>, n: usize, number: u32) -> usize {
-    let at = put_refused(out, n, number);
-    put(out, at, b"\n")
-}
-
-// The answer to a line that has no right shape.
-pub(crate) fn put_unknown(out: &mut Pending<'_, impl Print>, n: usize) -> usize {
-    put(out, n, b"?\n")
+    // A refusal by its number.
+    pub(crate) fn put_refused(&mut self, why: impl Into<u32>) {
+        let number: u32 = why.into();
+        self.put(b"refused");
+        self.put_number(number as usize);
+    }
 }

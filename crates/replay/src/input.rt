@@ -1,236 +1,138 @@
 // The fields of a line, and what a field says.
-ghost use Rattle.std.specs.Prelude.{◌≡◌, ◌∷◌, [], ◌+◌, ◌*◌, ◌/◌, ◌≤◌, ◌<◌, length, take};
-ghost use Rattle.std.specs.Prelude.{None};
+ghost use Rattle.std.specs.Prelude.{◌≡◌, ◌∷◌, [], ◌*◌, ◌/◌, ◌≤◌, ◌<◌, length};
+ghost use Rattle.std.specs.Option.{option_copied};
 ghost use Rattle.names.specs.Bytes.{every};
-ghost use Rattle.replay.specs.Input.{is_digit, digit_value, pairs, is_pairs, Reads, number_behind, number_in, read_in};
+ghost use Rattle.replay.specs.Input.{is_digit, digit_value, pairs, is_pairs, byte_string, Reads, number_behind, number_in};
 
+use arrayvec::ArrayVec;
 use names::bytes::equal;
 
 // The longest byte string: 40 blocks and one byte.
 pub(crate) const MOST: usize = 20481;
 
-// A byte string that was read: not ok where the field has another shape, not there where it says that there is none.
-#[derive(Drop)]
-pub(crate) struct Given {
-    pub ok: bool,
-    pub there: bool,
-    pub len: usize,
+pub(crate) type Bytes = ArrayVec<u8, MOST>;
+
+// The fields of a line. An empty one needs no test: it is no word, no byte string and no number.
+#[derive(Clone, Copy)]
+pub(crate) enum Fields<'a> {
+    One(&'a [u8]),
+    Two(&'a [u8], &'a [u8]),
+    Three(&'a [u8], &'a [u8], &'a [u8]),
+    Four(&'a [u8], &'a [u8], &'a [u8], &'a [u8]),
 }
 
-// A number that was read; not ok where the field is none, or too large.
-#[derive(Drop)]
-pub(crate) struct Number {
-    pub ok: bool,
-    pub value: usize,
-}
-
-// How many fields a line has: 0 where one is empty.
-pub(crate) fn count_fields(line: &[u8]) -> usize {
-    let mut count: usize = 1;
-    let mut is_empty = true;
-    let mut i: usize = 0;
-    while i < line.len() {
-        if line[i] == b' ' {
-            if is_empty {
-                return 0;
-            }
-            is_empty = true;
-            count += 1;
-        } else {
-            is_empty = false;
+impl<'a> Fields<'a> {
+    // None where there are more than four.
+    pub(crate) fn of(line: &'a [u8]) -> Option<Fields<'a>> {
+        let mut fields = line.split(|b| *b == b' ');
+        let word = fields.next()?;
+        let rest = (fields.next(), fields.next(), fields.next(), fields.next());
+        match rest {
+            (None, _, _, _) => Some(Fields::One(word)),
+            (Some(a), None, _, _) => Some(Fields::Two(word, a)),
+            (Some(a), Some(b), None, _) => Some(Fields::Three(word, a, b)),
+            (Some(a), Some(b), Some(c), None) => Some(Fields::Four(word, a, b, c)),
+            _ => None,
         }
-        i += 1;
     }
-    if is_empty {
-        return 0;
-    }
-    count
 }
 
-// Where b stands first, or the length.
-pub(crate) fn find_byte(s: &[u8], b: u8) -> usize
-    ensures { result ≤ length s.now }
-{
-    let mut i: usize = 0;
-    while i < s.len() {
-        if s[i] == b {
-            return i;
-        }
-        i += 1;
-    }
-    i
-}
-
-pub(crate) fn first_field(s: &[u8]) -> &[u8] {
-    let e = find_byte(s, b' ');
-    &s[0..e]
-}
-
-// What stands behind the first field and its space.
-fn behind_first(s: &[u8]) -> &[u8] {
-    let e = find_byte(s, b' ');
-    if e < s.len() {
-        let a = e + 1;
-        return &s[a..];
-    }
-    &s[0..0]
-}
-
-pub(crate) fn second_field(s: &[u8]) -> &[u8] {
-    first_field(behind_first(s))
-}
-
-pub(crate) fn third_field(s: &[u8]) -> &[u8] {
-    second_field(behind_first(s))
-}
-
-pub(crate) fn fourth_field(s: &[u8]) -> &[u8] {
-    third_field(behind_first(s))
-}
-
+#[tactic(auto, using(std::proofs::lemmas::Bool::Decides::nat_tests), unfolding(crate::specs::Input::is_digit))]
 fn is_digit(b: u8) -> bool
     ensures { result ≡ is_digit b }
 {
+    matches!(b, b'0'..=b'9' | b'a'..=b'f')
+}
+
+// What a digit stands for: 0 for any other byte.
+#[tactic(auto, using(std::proofs::lemmas::Bool::Decides::nat_tests), unfolding(crate::specs::Input::digit_value))]
+fn digit_value(b: u8) -> u8
+    ensures { (result ≡ digit_value b) × (result < 16) }
+{
     match b {
-        b'0'..=b'9' | b'a'..=b'f' => true,
-        _ => false,
+        b'0'..=b'9' => b - b'0',
+        b'a'..=b'f' => b - b'a' + 10,
+        _ => 0,
+    }
+}
+
+// The bytes that pairs of digits stand for.
+fn decode_pairs(s: &[u8], to: &mut Bytes)
+    requires { length s.now / 2 ≤ MOST }
+    ensures { to.new.items ≡ pairs s.now }
+{
+    to.clear();
+    let (pairs, _) = s.as_chunks::<2>();
+    for [high, low] in pairs {
+        to.push(digit_value(*high) * 16 + digit_value(*low));
     }
 }
 
 fn all_digits(s: &[u8]) -> bool
     ensures { result ≡ every is_digit s.now }
 {
-    let mut i: usize = 0;
-    while i < s.len() {
-        if !is_digit(s[i]) {
-            return false;
-        }
-        i += 1;
-    }
-    true
-}
-
-// What a digit stands for: 0 for any other byte.
-fn digit_value(b: u8) -> u8
-    ensures { (result ≡ digit_value b) × (result < 16) }
-{
-    match b {
-        b'0'..=b'9' => b - 48,
-        b'a'..=b'f' => b - 87,
-        _ => 0,
-    }
-}
-
-// Puts the bytes that pairs of digits stand for at the start of `to`.
-fn decode_pairs(s: &[u8], to: &mut [u8])
-    requires { length s.now / 2 ≤ length to.old }
-    ensures { take (length s.now / 2) to.new ≡ pairs s.now }
-{
-    let count = s.len() / 2;
-    let mut i: usize = 0;
-    while i < count {
-        to[i] = digit_value(s[i * 2]) * 16 + digit_value(s[i * 2 + 1]);
-        i += 1;
-    }
+    s.iter().all(|b| is_digit(*b))
 }
 
 // Whether a field is one or more pairs of digits, and not too many.
+#[tactic(auto, using(std::proofs::lemmas::Bool::Decides::nat_tests), unfolding(crate::specs::Input::is_pairs))]
 fn is_pairs(s: &[u8]) -> bool
     ensures { result ≡ is_pairs s.now }
 {
-    if s.len() == 0 {
-        return false;
-    }
-    if s.len() > MOST * 2 {
-        return false;
-    }
-    if s.len() % 2 != 0 {
-        return false;
-    }
-    all_digits(s)
+    !s.is_empty() && s.len() <= MOST * 2 && s.len() % 2 == 0 && all_digits(s)
 }
 
 // The byte string that a field gives. Where it gives none, `to` stays as it is.
-pub(crate) fn read_bytes(s: &[u8], to: &mut [u8; MOST]) -> Given
-    ensures { Reads s.now to.old to.new result }
+pub(crate) fn read_bytes(s: &[u8], to: &mut Bytes) -> Option<()>
+    ensures { Reads s.now to.old.items to.new.items result }
 {
     if equal(s, b"-") {
-        return Given {
-            ok: true,
-            there: true,
-            len: 0,
-        };
+        to.clear();
+        return Some(());
     }
     if !is_pairs(s) {
-        return Given {
-            ok: false,
-            there: false,
-            len: 0,
-        };
+        return None;
     }
     decode_pairs(s, to);
-    Given {
-        ok: true,
-        there: true,
-        len: s.len() / 2,
-    }
+    Some(())
+}
+
+// The same, lent.
+pub(crate) fn lend_bytes<'a>(s: &[u8], room: &'a mut Bytes) -> Option<&'a [u8]>
+    ensures { option_copied result ≡ byte_string s.now }
+{
+    read_bytes(s, room)?;
+    Some(room.as_slice())
 }
 
 // The same where the field may say that there is none.
-pub(crate) fn read_optional(s: &[u8], to: &mut [u8; MOST]) -> Given {
+pub(crate) fn lend_optional<'a>(s: &[u8], room: &'a mut Bytes) -> Option<Option<&'a [u8]>> {
     if equal(s, b"~") {
-        return Given {
-            ok: true,
-            there: false,
-            len: 0,
-        };
+        return Some(None);
     }
-    read_bytes(s, to)
-}
-
-fn no_number() -> Number
-    ensures { read_in result ≡ None }
-{
-    Number {
-        ok: false,
-        value: 0,
-    }
+    Some(Some(lend_bytes(s, room)?))
 }
 
 // The number with one more decimal digit behind it.
-fn with_digit(value: usize, b: u8) -> Number
-    ensures { read_in result ≡ number_behind value (b ∷ []) }
+fn with_digit(value: usize, b: u8) -> Option<usize>
+    ensures { result ≡ number_behind value (b ∷ []) }
 {
-    match b {
-        b'0'..=b'9' => {
-            let d = (b - 48) as usize;
-            if value > (usize::MAX - d) / 10 {
-                return no_number();
-            }
-            Number {
-                ok: true,
-                value: value * 10 + d,
-            }
-        }
-        _ => no_number(),
+    if !b.is_ascii_digit() {
+        return None;
     }
+    value.checked_mul(10)?.checked_add(usize::from(b - b'0'))
 }
 
-pub(crate) fn read_number(s: &[u8]) -> Number
-    ensures { read_in result ≡ number_in s.now }
+#[tactic(auto, unfolding(crate::specs::Input::number_in))]
+pub(crate) fn read_number(s: &[u8]) -> Option<usize>
+    ensures { result ≡ number_in s.now }
 {
-    if s.len() == 0 {
-        return no_number();
+    if s.is_empty() {
+        return None;
     }
     let mut value: usize = 0;
-    let mut i: usize = 0;
-    while i < s.len() {
-        let next = with_digit(value, s[i]);
-        if !next.ok {
-            return no_number();
-        }
-        value = next.value;
-        i += 1;
+    for b in s {
+        value = with_digit(value, *b)?;
     }
-    Number { ok: true, value }
+    Some(value)
 }

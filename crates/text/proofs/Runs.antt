@@ -1,28 +1,22 @@
 -- The lines of a run, step by step.
-use mathlib.Core.Path.{◌≡◌, refl, ap, sym, ◌∙◌}
-use Prim.Native.Nat.{ℕ, suc, ◌+◌, ◌-◌, ◌*◌, ◌/◌, ◌<◌, ◌≤◌}
-use mathlib.Core.Bool.{Bool}
+use mathlib.Core.Path.{◌≡◌, refl, ap, sym}
+use Prim.Native.Nat.{ℕ, zero, suc, ◌+◌, ◌*◌, ◌/◌, ◌≤◌}
 use Rattle.std.specs.Prelude.{None}
 use mathlib.Core.List.{List, [], ◌++◌, append_assoc, append-nil}
 use native.Mathlib.Omega.{arith}
-use lib.ListN.{length, take, length-take, length-append}
+use lib.ListN.{length}
 use Rattle.names.specs.Bytes.{Bytes, bytes}
 use Rattle.blocks.specs.Layout.{block_size}
-use Rattle.blocks.specs.Snapshot.{Snapshot, or_empty, sizes_within}
-use Rattle.blocks.specs.Means.{id_width, if_there, snapshot_of}
+use Rattle.blocks.specs.Snapshot.{Snapshot, or_empty}
+use Rattle.blocks.specs.Means.{id_width}
 use Rattle.blocks.proofs.Sizes.{sizes_right}
-use Rattle.refs.specs.Run.{State, step, run}
-use Rattle.refs.specs.Means.{state_of, reference_of, listed_with, step_of}
-use Rattle.refs.specs.Answer.{Reference, Answer}
-use Rattle.refs.specs.declared.overlay_iter.Listed.{Listed}
-use Rattle.refs.specs.declared.overlay_iter.Listed.TheVariants as listed
-use Rattle.refs.specs.declared.overlay_iter.Stepped.{Stepped}
+use Rattle.refs.specs.Run.{State, Step, Run, step, run}
+use Rattle.refs.specs.Answer.{Answer, nothing, found, refused}
 use Rattle.refs.proofs.Moves.{run_none, run_more}
 use Rattle.text.specs.Text.{tab, newline, decimal}
-use Rattle.text.specs.Reflist.{most_listed, answer_line, answer_lines, line_weight, line_count, end_line, listed_text, block_total}
-use Rattle.output.specs.Pasted.{Put}
-use Rattle.text.specs.Promises.{PutLines, longest_line, most_steps, listed_weight}
-use Rattle.text.proofs.Puts.{put_then}
+use Rattle.text.specs.Reflist.{most_listed, answer_line, answer_lines, line_weight, line_count, end_line, listed_text, block_total, files_check}
+use Rattle.text.specs.Promises.{Adds, longest_line, longest_end, most_steps}
+use Rattle.text.proofs.Puts.{◌then◌, wider, nothing_put}
 
 -- what n steps from a state give
 abbrev pub lines : Snapshot → ℕ → State → Bytes
@@ -31,96 +25,96 @@ lines s n st = answer_lines (run id_width s n st).answers
 abbrev pub counted : Snapshot → ℕ → State → ℕ
 counted s n st = line_count (run id_width s n st).answers
 
-first_line : (s : Snapshot) (n : ℕ) (st : State) → lines s (suc n) st ≡ answer_line (step id_width s st).answer ++ lines s n (step id_width s st).next
-unfolding answer_lines
-first_line s n st = rw (run_more id_width s n st)
+abbrev pub after : Snapshot → ℕ → State → State
+after s n st = (run id_width s n st).last
 
-first_counted : (s : Snapshot) (n : ℕ) (st : State) → counted s (suc n) st ≡ line_weight (step id_width s st).answer + counted s n (step id_width s st).next
-unfolding line_count
-first_counted s n st = rw (run_more id_width s n st)
+module _ (s : Snapshot) where
+  no_lines : (st : State) → lines s 0 st ≡ []
+  unfolding answer_lines
+  no_lines st = rw (run_none id_width s st)
 
-no_lines : (s : Snapshot) (st : State) → lines s 0 st ≡ []
-unfolding answer_lines
-no_lines s st = rw (run_none id_width s st)
+  none_counted : (st : State) → counted s 0 st ≡ 0
+  unfolding line_count
+  none_counted st = rw (run_none id_width s st)
 
-none_counted : (s : Snapshot) (st : State) → counted s 0 st ≡ 0
-unfolding line_count
-none_counted s st = rw (run_none id_width s st)
+  same_state : (st : State) → after s 0 st ≡ st
+  same_state st = ap (λ (r : Run). r.last) (run_none id_width s st)
 
-pub weight_small : (a : Listed) → listed_weight a ≤ 1
-weight_small listed.NotWhole = omega arith
-weight_small listed.TooMany = omega arith
-weight_small listed.Entry = omega arith
-weight_small (listed.Refused why) = omega arith
-weight_small listed.Ended = omega arith
+  first_line : (n : ℕ) (st : State) → lines s (suc n) st ≡ answer_line (step id_width s st).answer ++ lines s n (step id_width s st).next
+  unfolding answer_lines
+  first_line n st = rw (run_more id_width s n st)
 
-weight_is : (a : Listed) (r : Reference) → listed_weight a ≡ line_weight (listed_with a r)
-weight_is listed.NotWhole r = refl
-weight_is listed.TooMany r = refl
-weight_is listed.Entry r = refl
-weight_is (listed.Refused why) r = refl
-weight_is listed.Ended r = refl
+  first_counted : (n : ℕ) (st : State) → counted s (suc n) st ≡ line_weight (step id_width s st).answer + counted s n (step id_width s st).next
+  unfolding line_count
+  first_counted n st = rw (run_more id_width s n st)
 
-module _ (s : Snapshot) (n i : ℕ) (st : State) where
-  -- step i of n puts its line
-  pub line_turned : (d : Stepped) {b a c : Bytes} {e f : ℕ} → i < n → step_of d ≡ step id_width s st → Put b e (answer_line (listed_with d.answer (reference_of d.reference))) a f
-      → take e b ++ lines s (n - i) st ≡ c → take f a ++ lines s (n - (i + 1)) (state_of d.next) ≡ c
-  line_turned d {b} {a} {c} {e} {f} h q p inv =
-      let left : n - i ≡ suc (n - (i + 1)) = omega arith in
-      let more : lines s (n - i) st ≡ answer_line (step id_width s st).answer ++ lines s (n - (i + 1)) (step id_width s st).next = rw left (first_line s (n - (i + 1)) st) in
-      rw p.text (append_assoc (take e b) (answer_line (listed_with d.answer (reference_of d.reference))) (lines s (n - (i + 1)) (state_of d.next))
-      ∙ ap (λ (x : Bytes). take e b ++ x) (rw (more, ← q))
-      ∙ inv)
+  first_moved : (n : ℕ) (st : State) → after s (suc n) st ≡ after s n (step id_width s st).next
+  first_moved n st = ap (λ (r : Run). r.last) (run_more id_width s n st)
 
-  pub count_turned : (d : Stepped) (w k m : ℕ) → i < n → step_of d ≡ step id_width s st → w ≡ listed_weight d.answer
-      → k + counted s (n - i) st ≡ m → k + w + counted s (n - (i + 1)) (state_of d.next) ≡ m
-  count_turned d w k m h q v inv =
-      let left : n - i ≡ suc (n - (i + 1)) = omega arith in
-      let more : counted s (n - i) st ≡ line_weight (step id_width s st).answer + counted s (n - (i + 1)) (step id_width s st).next = rw left (first_counted s (n - (i + 1)) st) in
-      let weight : w ≡ line_weight (listed_with d.answer (reference_of d.reference)) = v ∙ weight_is d.answer (reference_of d.reference) in
-      omega (arith, rw (more, ← q) at inv)
+  -- one step more
+  last_line : (n : ℕ) (st : State) → lines s (suc n) st ≡ lines s n st ++ answer_line (step id_width s (after s n st)).answer
+  last_line zero st = rw (first_line 0 st, no_lines (step id_width s st).next, no_lines st, same_state st) (append-nil (answer_line (step id_width s st).answer))
+  last_line (suc n) st =
+      rw (first_line (suc n) st, first_line n st, first_moved n st, last_line n (step id_width s st).next)
+      (sym (append_assoc (answer_line (step id_width s st).answer) (lines s n (step id_width s st).next) (answer_line (step id_width s (after s n (step id_width s st).next)).answer)))
 
-  -- after the last step
-  pub lines_done : (b c : Bytes) (e : ℕ) → n ≤ i → take e b ++ lines s (n - i) st ≡ c → take e b ≡ c
-  lines_done b c e h inv =
-      let left : n - i ≡ 0 = omega arith in
-      sym (append-nil (take e b)) ∙ ap (λ (x : Bytes). take e b ++ x) (sym (rw left (no_lines s st))) ∙ inv
+  last_counted : (n : ℕ) (st : State) → counted s (suc n) st ≡ counted s n st + line_weight (step id_width s (after s n st)).answer
+  last_counted zero st = rw (first_counted 0 st, none_counted (step id_width s st).next, none_counted st, same_state st) (omega arith)
+  last_counted (suc n) st = rw (first_counted (suc n) st, first_counted n st, first_moved n st, last_counted n (step id_width s st).next) (omega arith)
 
-  pub count_done : (k m : ℕ) → n ≤ i → k + counted s (n - i) st ≡ m → k ≡ m
-  count_done k m h inv =
-      let left : n - i ≡ 0 = omega arith in
-      let none_left : counted s (n - i) st ≡ 0 = rw left (none_counted s st) in
-      omega arith
+  last_moved : (n : ℕ) (st : State) → after s (suc n) st ≡ (step id_width s (after s n st)).next
+  last_moved zero st = rw (first_moved 0 st, same_state (step id_width s st).next, same_state st)
+  last_moved (suc n) st = rw (first_moved (suc n) st, first_moved n st, last_moved n (step id_width s st).next)
 
--- before the first step
-pub lines_first : (s : Snapshot) (n : ℕ) (st : State) (b : Bytes) → b ++ lines s (n - 0) st ≡ b ++ lines s n st
-lines_first s n st b = let all : n - 0 ≡ n = omega arith in rw all
+-- ---- what the steps so far have put
 
-pub count_first : (s : Snapshot) (n : ℕ) (st : State) → 0 + counted s (n - 0) st ≡ counted s n st
-count_first s n st = let all : n - 0 ≡ n = omega arith in rw all (omega arith)
+pub weight_small : (a : Answer) → line_weight a ≤ 1
+weight_small nothing = omega arith
+weight_small (found r) = omega arith
+weight_small (refused k) = omega arith
+
+-- after n steps from the first state
+pub record SoFar (s : Snapshot) (room n : ℕ) (first st : State) (before now : Bytes) (count : ℕ) : Type 0 where
+  pub text : Adds room (n * longest_line) before (lines s n first) now
+  pub counts : count ≡ counted s n first
+  pub few : count ≤ n
+  pub state : st ≡ after s n first
+
+module _ (s : Snapshot) (room : ℕ) (first : State) (before : Bytes) where
+  pub none_yet : SoFar s room 0 first first before before 0
+  none_yet =
+      record {
+        text = rw (no_lines s first) (nothing_put room 0 before);
+        counts = sym (none_counted s first);
+        few = omega arith;
+        state = sym (same_state s first);
+      }
+
+  pub one_more : (n : ℕ) (st : State) (now next : Bytes) (count w : ℕ) (d : Step) → d ≡ step id_width s st → w ≡ line_weight d.answer
+      → Adds room longest_line now (answer_line d.answer) next → SoFar s room n first st before now count → SoFar s room (n + 1) first d.next before next (count + w)
+  one_more n st now next count w d q v p so_far =
+      let more : n + 1 ≡ suc n = omega arith in
+      let answers : step id_width s (after s n first) ≡ d = rw (← so_far.state, q) in
+      rw more
+      record {
+        text = rw (last_line s n first, answers) (wider (so_far.text then p) (omega arith));
+        counts = rw (last_counted s n first, answers) (omega (arith, so_far.counts, v));
+        few = omega (arith, so_far.few, v, weight_small d.answer);
+        state = rw (last_moved s n first, answers);
+      }
 
 -- the number of blocks as the code has it
-pub total_is : (w c p : Bytes) (has : Bool) (e : Bytes) → e ≡ or_empty (if_there has c)
-    → length w / block_size + length e / block_size + length p / block_size ≡ block_total (snapshot_of w (if_there has c) p)
+pub total_is : (s : Snapshot) (e : Bytes) → e ≡ or_empty s.common → length s.worktree / block_size + length e / block_size + length s.packed / block_size ≡ block_total s
 unfolding block_total
-total_is w c p has e h = rw h
+total_is s e h = rw h
 
 -- ---- the end
 
--- where the text ends is known from what it is
-end_known : (a b l : Bytes) (e at : ℕ) → take e a ≡ take at b ++ l → e ≤ length a → at ≤ length b → e ≡ at + length l
-end_known a b l e at t h k =
-    let same_length : length (take e a) ≡ length (take at b ++ l) = ap length t in
-    omega (arith, simp (length-take, length-append) at same_length)
-
 -- lines, then the end
-pub then_end : (b : Bytes) (at steps : ℕ) (l : List Answer) (m : Bytes) (e count : ℕ) (a : Bytes) (r : ℕ)
-    → PutLines b at steps l m e count → at + steps * longest_line ≤ length b → Put m e (bytes "end" ++ tab ++ decimal count ++ newline) a r → Put b at (listed_text l) a r
+pub then_end : {room n count : ℕ} (l : List Answer) {a b c : Bytes} → Adds room n a (answer_lines l) b → count ≡ line_count l
+    → Adds room longest_end b (bytes "end" ++ tab ++ decimal count ++ newline) c → Adds room (n + longest_end) a (listed_text l) c
 unfolding listed_text end_line
-then_end b at steps l m e count a r p h q =
-    let from : e ≡ at + length (answer_lines l) = end_known m b (answer_lines l) e at p.text (omega (arith, p.ends_within, p.size)) (omega arith) in
-    let lines-put : Put b at (answer_lines l) m e = record { text = p.text; ends = from; size = p.size } in
-    rw (← p.counted) (put_then lines-put q)
+then_end l p k q = rw (← k) (p then q)
 
 -- no line at all
 pub none_listed : listed_text [] ≡ bytes "end" ++ tab ++ decimal 0 ++ newline
@@ -130,9 +124,8 @@ none_listed = refl
 -- ---- sizes
 
 -- files of right sizes have at most 120 blocks
-pub few_blocks : (w c p : Bytes) (has : Bool) (e : Bytes) → e ≡ or_empty (if_there has c) → sizes_within most_listed (length w) (length e) (length p) ≡ None
-    → block_total (snapshot_of w (if_there has c) p) ≤ most_steps
-unfolding block_total
-few_blocks w c p has e q h =
-    let right = sizes_right most_listed (length w) (length e) (length p) h in
-    rw (← q) (omega (arith, right.worktree, right.common, right.packed))
+pub few_blocks : (s : Snapshot) → None ≡ files_check (length s.worktree) (length (or_empty s.common)) (length s.packed) → block_total s ≤ most_steps
+unfolding files_check block_total
+few_blocks s h =
+    let right = sizes_right most_listed (length s.worktree) (length (or_empty s.common)) (length s.packed) (sym h) in
+    omega (arith, right.worktree, right.common, right.packed)

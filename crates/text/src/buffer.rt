@@ -1,46 +1,69 @@
-// Text put piece by piece into a lent buffer.
-ghost use Rattle.std.specs.Prelude.{◌+◌, ◌≤◌, length};
+// Text of bounded size, put together piece by piece.
+ghost use Rattle.std.specs.Prelude.{◌≡◌, [], length};
 ghost use Rattle.names.specs.Name.{longest};
 ghost use Rattle.names.specs.Means.{content};
 ghost use Rattle.blocks.specs.Means.{id_width};
 ghost use Rattle.text.specs.Text.{decimal};
-ghost use Rattle.output.specs.Pasted.{Put};
-ghost use Rattle.text.specs.Promises.{PutWithin, most_digits};
+ghost use Rattle.text.specs.Promises.{Adds, most_digits};
 
+use arrayvec::ArrayVec;
 use blocks::parse::Id;
-use names::name::{Name, lend};
+use names::name::Name;
+use std::marker::Model;
 
-// Puts s behind the first `at` bytes, and answers where it ends.
-pub(crate) fn put(out: &mut [u8], at: usize, s: &[u8]) -> usize
-    requires { at + length s.now ≤ length out.old }
-    ensures { Put out.old at s.now out.new result }
-{
-    output::put(out, at, s);
-    at + s.len()
+// Text of at most `N` bytes, which lie in the value itself. A piece that finds no room is left out: that none is, a program's text
+// promises by being equal to its definition.
+#[derive(Drop)]
+pub struct Text<const N: usize> {
+    bytes: ArrayVec<u8, N>,
 }
 
-pub(crate) fn put_name(out: &mut [u8], at: usize, n: Name) -> usize
-    requires { at + longest ≤ length out.old }
-    ensures { PutWithin longest out.old at (content n) out.new result }
-{
-    let b = n.bytes;
-    let len = n.len;
-    put(out, at, lend(&b, len))
+impl<const N: usize> Model for Text<N> {
+    ghost use Rattle.std.specs.Prelude.{ℕ, List};
+
+    ghost Value = { List ℕ };
+
+    ghost view = { λ t. t.bytes.items };
 }
 
-pub(crate) fn put_id(out: &mut [u8], at: usize, id: Id) -> usize
-    requires { at + id_width ≤ length out.old }
-    ensures { PutWithin id_width out.old at id.digits out.new result }
-{
-    let digits = id.digits;
-    put(out, at, &digits)
-}
+impl<const N: usize> Text<N> {
+    pub(crate) fn new() -> Self
+        ensures { result ≡ [] }
+    {
+        Text {
+            bytes: ArrayVec::new(),
+        }
+    }
 
-pub(crate) fn put_number(out: &mut [u8], at: usize, n: u64) -> usize
-    requires { at + most_digits ≤ length out.old }
-    ensures { PutWithin most_digits out.old at (decimal n) out.new result }
-{
-    let mut digits = [0u8; 20];
-    let k = io::decimal(n, &mut digits);
-    put(out, at, &digits[..k])
+    pub fn as_bytes(&self) -> &[u8]
+        ensures { result.now ≡ self.now }
+    {
+        self.bytes.as_slice()
+    }
+
+    pub(crate) fn put(&mut self, s: &[u8])
+        ensures { Adds N (length s.now) self.old s.now self.new }
+    {
+        let _ = self.bytes.try_extend_from_slice(s);
+    }
+
+    #[tactic(auto, using(crate::proofs::Puts::wider))]
+    pub(crate) fn put_name(&mut self, n: &Name)
+        ensures { Adds N longest self.old (content n.now) self.new }
+    {
+        self.put(n.as_bytes());
+    }
+
+    pub(crate) fn put_id(&mut self, id: &Id)
+        ensures { Adds N id_width self.old id.now.digits self.new }
+    {
+        self.put(&id.digits);
+    }
+
+    pub(crate) fn put_number(&mut self, n: u64)
+        ensures { Adds N most_digits self.old (decimal n) self.new }
+    {
+        let mut digits = itoa::Buffer::new();
+        self.put(digits.format(n).as_bytes());
+    }
 }

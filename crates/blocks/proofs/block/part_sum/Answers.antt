@@ -8,26 +8,33 @@ use native.Mathlib.Omega.{arith}
 use Rattle.blocks.proofs.block.part_sum.Goals as goal
 
 pub loop-i-init : goal.loop-i-init
-loop-i-init c = (omega arith, omega arith, sym (weighted_none c.args.k c.args.s.now))
+loop-i-init c = (omega arith, sym (weighted_none c.args.k c.args.s.now))
 
 pub overflow_mul-sum : goal.overflow_mul-sum
-overflow_mul-sum c = let h = product_le c.full.result c.wide.result (omega arith) c.wide.ensures.1 in omega arith
+overflow_mul-sum c =
+    let x = c.type_inv.s c.loop-i.i in
+    let h = product_le c.from.result c.from-in-loop-i.result (omega arith) (omega arith) in
+    omega arith
 
 pub overflow_add-sum : goal.overflow_add-sum
-overflow_add-sum c = let h = product_le c.full.result c.wide.result (omega arith) c.wide.ensures.1 in omega arith
+overflow_add-sum c =
+    let x = c.type_inv.s c.loop-i.i in
+    let h = product_le c.from.result c.from-in-loop-i.result (omega arith) (omega arith) in
+    omega arith
 
 pub loop-i-preserved : goal.loop-i-preserved
 loop-i-preserved c =
     let start = c.args in
     let i = c.loop-i.i in
-    let weight = c.full in
-    let h = product_le weight.result c.wide.result (omega arith) c.wide.ensures.1 in
+    let x = c.type_inv.s i in
+    let weight = c.from in
+    let h = product_le weight.result c.from-in-loop-i.result (omega arith) (omega arith) in
     let w : weight.result ≡ start.k + i + 1 = weight.ensures ∙ mod-eq_of_lt (omega arith) in
-    let e = ap₂ ◌*◌ w c.wide.ensures.0 in
+    let e = ap₂ ◌*◌ w c.from-in-loop-i.ensures in
     let more = weighted_more start.k start.s.now i (omega arith) in
-    (omega arith, omega arith, omega arith)
+    (omega arith, omega arith)
 
 pub returns : goal.returns
 returns c =
     let start = c.args in
-    (c.loop-i.invariant.2 ∙ ap (weighted start.k) (take_all c.loop-i.i start.s.now (omega arith)), omega arith)
+    (c.loop-i.invariant.1 ∙ ap (weighted start.k) (take_all c.loop-i.i start.s.now (omega arith)), omega arith)

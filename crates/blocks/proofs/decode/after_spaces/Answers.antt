@@ -1,14 +1,12 @@
+use mathlib.Core.Path.{◌≡◌}
+use borrow.Author.Tests.{tests}
+use Rattle.std.proofs.Common.{rules}
+use Rattle.std.proofs.lemmas.Iterator.{IsFirst-from_position, YieldsList-from_slice}
 use Rattle.blocks.proofs.Parts.{rest_is}
-use Rattle.blocks.proofs.Lines.{spaces_more, spaces_done, spaces_end}
-use mathlib.Core.Path.{sym, ◌∙◌}
-use native.Mathlib.Omega.{arith}
+use Rattle.blocks.proofs.Lines.{spaces_found, drop_spaces}
 use Rattle.blocks.proofs.decode.after_spaces.Goals as goal
 
-pub returns-then-s-i-ne32 : goal.returns-then-s-i-ne32
-returns-then-s-i-ne32 c = rw (rest_is, c.loop-i.invariant.1) (sym (spaces_done _ _ c.loop-i-test.true c.if-s-i-ne32.true))
-
-pub loop-i-preserved : goal.loop-i-preserved
-loop-i-preserved c = (omega arith, c.loop-i.invariant.1 ∙ spaces_more _ _ c.loop-i-test.true c.if-s-i-ne32.false)
-
 pub returns : goal.returns
-returns c = rw (rest_is, c.loop-i.invariant.1) (sym (spaces_end _ _ c.loop-i-test.false))
+returns c =
+    let first = IsFirst-from_position _ _ _ (λ b. b ≡ 32 → ⊥) (λ b. b ≡ 32) c.position.ensures.ran (YieldsList-from_slice _ c.iter.ensures.rest) (λ x q k. search (rules, tests)) (λ x q k. search (rules, tests)) in
+    rw (rest_is, c.unwrap_or-n.ensures, ← spaces_found c.args.s.now c.position.result first) (drop_spaces c.args.s.now)

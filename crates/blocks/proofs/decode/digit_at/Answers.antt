@@ -1,9 +1,6 @@
-use mathlib.Core.Path.{◌∙◌}
-use Rattle.blocks.proofs.Contents.{digit_there, digit_past}
+use Rattle.std.proofs.Common.{rules}
+use Rattle.blocks.proofs.Contents.{digit_got}
 use Rattle.blocks.proofs.decode.digit_at.Goals as goal
 
-pub returns-then-i-s : goal.returns-then-i-s
-returns-then-i-s c = c.is_hex_digit.ensures ∙ digit_there _ _ c.if-i-s.true
-
 pub returns : goal.returns
-returns c = digit_past _ _ c.if-i-s.false
+returns c = digit_got c.args.s.now c.args.i c.get.result c.is_some_and.result c.get.ensures.lookup.3 c.is_some_and.ensures (λ x q. search rules)

@@ -1,14 +1,13 @@
-use native.Mathlib.Nat.{sub-zero}
-use mathlib.Core.Path.{sym, ◌∙◌}
-use Rattle.blocks.proofs.Lines.{line_more, line_done, line_all}
-use native.Mathlib.Omega.{arith}
+use mathlib.Core.Path.{◌≡◌}
+use mathlib.Core.Bool.{true, false}
+use borrow.Author.Tests.{tests}
+use Rattle.std.proofs.Common.{rules}
+use Rattle.std.proofs.lemmas.Iterator.{IsFirst-from_position, YieldsList-from_slice}
+use Rattle.blocks.specs.Content.{ends_line}
+use Rattle.blocks.proofs.Lines.{end_found, take_line}
 use Rattle.blocks.proofs.decode.first_line.Goals as goal
 
-pub returns-then-is_line_end : goal.returns-then-is_line_end
-returns-then-is_line_end c = rw sub-zero (line_done _ _ c.loop-i-test.true (sym c.is_line_end.ensures ∙ c.if-is_line_end.true) c.loop-i.invariant.1)
-
-pub loop-i-preserved : goal.loop-i-preserved
-loop-i-preserved c = (omega arith, line_more _ _ c.loop-i-test.true (sym c.is_line_end.ensures ∙ c.if-is_line_end.false) c.loop-i.invariant.1)
-
 pub returns : goal.returns
-returns c = line_all _ _ c.loop-i-test.false c.loop-i.invariant.1
+returns c =
+    let first = IsFirst-from_position _ _ _ (λ b. ends_line b ≡ true) (λ b. ends_line b ≡ false) c.position.ensures.ran (YieldsList-from_slice _ c.iter.ensures.rest) (λ x q k. search (rules, tests)) (λ x q k. search (rules, tests)) in
+    rw (c.unwrap_or-n.ensures, ← end_found c.args.s.now c.position.result first) (take_line c.args.s.now)

@@ -4,9 +4,8 @@ use Rattle.blocks.specs.Content.{is_hex}
 use native.Mathlib.Omega.{arith}
 use Rattle.blocks.proofs.parse.all_hex.Goals as goal
 
-pub loop-i-preserved : goal.loop-i-preserved
-loop-i-preserved c =
-    let at = c in (omega arith, rw (at.loop-i.invariant.1, every_at _ _ at.loop-i-test.true is_hex, ← c.is_hex_digit-hex.ensures, and_assoc))
+pub loop-b-preserved : goal.loop-b-preserved
+loop-b-preserved c = rw (c.loop-b.invariant, every_at _ _ c.loop-b-test.true is_hex, ← c.is_hex_digit-hex.ensures, and_assoc)
 
 pub returns : goal.returns
-returns c = rw (c.loop-i.invariant.1, every_end c.args.s.now c.loop-i.i (omega arith) is_hex, and-true)
+returns c = rw (c.loop-b.invariant, every_end c.args.s.now c.loop-b.b-index (omega arith) is_hex, and-true)

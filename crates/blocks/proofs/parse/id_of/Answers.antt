@@ -1,25 +1,17 @@
-use Rattle.blocks.specs.Content.{lower}
-use Prim.Native.Nat.{ℕ}
-use mathlib.Core.Path.{ap, ◌≡◌, sym, ◌∙◌}
-use lib.ListN.{length-set}
-use lib.Seq.{take_all}
+use Prim.Native.Nat.{◌<◌, ◌≤◌}
+use lib.ListN.{length}
 use Rattle.blocks.specs.Means.{id_width}
-use Rattle.blocks.proofs.Ids.{digit_more}
-use native.Mathlib.Omega.{arith}
+use Rattle.blocks.proofs.Ids.{length_padded, lower_more, lower_all}
 use Rattle.blocks.proofs.parse.id_of.Goals as goal
 
-pub loop-i-preserved : goal.loop-i-preserved
-loop-i-preserved c =
-    let s = c.args.s.now in
-    let at = c.loop-i in (
-      omega arith,
-      simp length-set at.invariant.1,
-      digit_more id_width s at.d at.i c.lower.result c.loop-i-test.true at.invariant.1 (c.lower.ensures ∙ ap (λ (x : ℕ). lower x) c.byte_or_zero.ensures) at.invariant.2,
-    )
+pub loop-d-preserved : goal.loop-d-preserved
+loop-d-preserved c =
+    let d = c.padded-digits in
+    let h : c.loop-d.d-index < length d.result = rw (d.ensures, length_padded id_width c.args.s.now) c.loop-d-test.true in
+    lower_more d.result c.loop-d.d-items c.loop-d.d-index _ h c.to_ascii_lowercase.ensures.value c.loop-d.invariant
 
 pub returns : goal.returns
 returns c =
-    let at = c.loop-i in
-    let e : at.i ≡ id_width = omega arith in
-    let h = rw e at at.invariant.2 in
-    sym (take_all id_width at.d (omega arith)) ∙ h
+    let d = c.padded-digits in
+    let h : length d.result ≤ c.loop-d.d-index = rw (d.ensures, length_padded id_width c.args.s.now) c.loop-d-test.false in
+    rw (lower_all d.result c.loop-d.d-items c.loop-d.d-index h c.loop-d.invariant, d.ensures)

@@ -1,14 +1,9 @@
-use Rattle.blocks.specs.Content.{lower_case}
-use Prim.Native.Nat.{◌≤◌, ◌-◌}
 use mathlib.Core.Path.{◌≡◌}
-use lib.ListN.{length, take}
-use Rattle.blocks.specs.Means.{id_width}
-use Rattle.blocks.proofs.Ids.{padded}
+use mathlib.Core.List.{◌++◌}
+use lib.ListN.{take, drop}
+use Rattle.blocks.specs.Content.{lower_case}
 use Rattle.blocks.proofs.parse.id_of.Given as goal
 
--- The invariant: the digits so far are those of s, with zeros behind it, in lower case.
-abbrev pub invariant-loop-i : goal.invariant-loop-i
-invariant-loop-i l = (l.i ≤ id_width) × (length l.d ≡ id_width) × (take l.i l.d ≡ lower_case (take l.i (padded id_width l.s)))
-
-abbrev pub decreases-loop-i : goal.decreases-loop-i
-decreases-loop-i l = id_width - l.i
+-- The invariant: the digits passed are in lower case, the others as they were.
+abbrev pub invariant-loop-d : goal.invariant-loop-d
+invariant-loop-d l = l.d-items ≡ lower_case (take l.d-index l.initial.d-items) ++ drop l.d-index l.initial.d-items

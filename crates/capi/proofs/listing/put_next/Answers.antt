@@ -1,18 +1,22 @@
+use mathlib.Core.Path.{◌≡◌, ap}
 use Prim.Native.Nat.{◌≤◌}
+use native.Mathlib.Omega.{arith}
 use lib.ListN.{length}
 use Rattle.names.specs.Name.{longest}
+use Rattle.refs.specs.Run.{State}
+use Rattle.capi.specs.Layout.{state_from}
 use Rattle.refs.specs.Means.{positions_of}
-use native.Mathlib.Omega.{arith}
 use Rattle.capi.proofs.States.{expansion_short, wrote_next}
 use Rattle.capi.proofs.listing.put_next.Goals as goal
 
 pub overflow_sub-length : goal.overflow_sub-length
 overflow_sub-length c =
-    let short : length c.expansion_in-length.result.now ≤ longest = rw c.expansion_in-length.ensures (expansion_short c.args.state.now) in
+    let kept : c.read.result.expansion.now ≡ (state_from c.args.state.now).expansion = ap (λ (s : State). s.expansion) c.read.ensures in
+    let short : length c.read.result.expansion.now ≤ longest = rw kept (expansion_short c.args.state.now) in
     omega (arith, short)
 
 pub returns : goal.returns
 returns c =
     let args = c.args in
-    let kept = c.expansion_in-length.ensures in
-    wrote_next (positions_of args.at) args.ended c.requires (rw kept at c.put_numbers.ensures) (rw kept at c.clear.ensures)
+    let kept : c.read.result.expansion.now ≡ (state_from args.state.now).expansion = ap (λ (s : State). s.expansion) c.read.ensures in
+    wrote_next (positions_of args.cursor.at) args.cursor.ended c.requires (rw kept at c.put_numbers.ensures) (rw kept at c.clear.ensures)

@@ -8,4 +8,4 @@ use Rattle.capi.proofs.validate.cosvint_full_name.Goals as goal
 pub returns : goal.returns
 returns c =
     let name = c.args.name.now in
-    c.verdict_number.ensures ∙ ap check_number c.check_full.ensures ∙ number_of (full_check name) name ∙ ap checked_number (sym (full_checked_is name))
+    c.number.ensures ∙ ap check_number c.check_full.ensures ∙ number_of (full_check name) name ∙ ap checked_number (sym (full_checked_is name))

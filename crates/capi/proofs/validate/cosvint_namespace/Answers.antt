@@ -9,4 +9,4 @@ use Rattle.capi.proofs.validate.cosvint_namespace.Goals as goal
 pub returns : goal.returns
 returns c =
     let s = c.args.namespace.now in
-    c.verdict_number.ensures ∙ ap check_number c.check_namespace.ensures ∙ number_of (names_check None (Some s)) (expand s) ∙ ap checked_number (sym (expanded_is s))
+    c.number.ensures ∙ ap check_number c.check_namespace.ensures ∙ number_of (names_check None (Some s)) (expand s) ∙ ap checked_number (sym (expanded_is s))

@@ -1,22 +1,14 @@
-use mathlib.Core.Path.{sym}
-use native.Mathlib.Omega.{arith}
-use Rattle.names.specs.Category.{first_slash}
-use Rattle.names.proofs.Classes.{from_start, slash_here, slash_later, slash_nowhere}
+use mathlib.Core.Path.{◌∙◌}
+use Rattle.std.proofs.Common.{rules}
+use Rattle.std.proofs.lemmas.Iterator.{YieldsList-from_slice}
+use Rattle.std.proofs.lemmas.Iterator.Search.{position_from_yields_List}
+use borrow.Author.Tests.{tests}
+use lib.Dec.{eqb}
+use Rattle.names.specs.Bytes.{slash}
+use Rattle.names.proofs.Classes.{slash_found}
 use Rattle.names.proofs.fullname.find_slash.Goals as goal
 
-pub loop-i-init : goal.loop-i-init
-loop-i-init c = (omega arith, sym (from_start (first_slash c.args.s.now)))
-
-pub returns-then-s-i-eq47 : goal.returns-then-s-i-eq47
-returns-then-s-i-eq47 c =
-    rw (
-      c.loop-i.invariant.1,
-      slash_here c.args.s.now c.loop-i.i (omega arith) c.if-s-i-eq47.true,
-    )
-
-pub loop-i-preserved : goal.loop-i-preserved
-loop-i-preserved c =
-    (omega arith, rw c.loop-i.invariant.1 (slash_later c.args.s.now c.loop-i.i (omega arith) c.if-s-i-eq47.false))
-
 pub returns : goal.returns
-returns c = rw (c.loop-i.invariant.1, slash_nowhere c.args.s.now c.loop-i.i (omega arith))
+returns c =
+    position_from_yields_List (λ b. eqb b slash) _ _ _ c.position.ensures.ran (YieldsList-from_slice c.args.s.now cc) (λ x b q k. search (rules, tests))
+    ∙ slash_found c.args.s.now

@@ -1,25 +1,14 @@
-use mathlib.Core.Path.{refl}
-use native.Mathlib.Omega.{arith}
+use mathlib.Core.Path.{◌∙◌}
+use Rattle.std.proofs.Common.{rules}
+use Rattle.std.proofs.lemmas.Iterator.{YieldsList-from_slice}
+use Rattle.std.proofs.lemmas.Iterator.Search.{all_from_yields_List}
+use borrow.Author.Tests.{tests}
 use Rattle.names.specs.Name.{is_pseudo, pseudo_byte}
-use Rattle.names.proofs.Walks.{every_at, every_end}
+use Rattle.names.proofs.Walks.{every_all}
 use Rattle.names.proofs.name.is_pseudo_ref.Goals as goal
 
-pub loop-i-init : goal.loop-i-init
-unfolding is_pseudo
-loop-i-init c = (omega arith, refl)
-
-pub returns-then-not-pseudo_byte : goal.returns-then-not-pseudo_byte
-returns-then-not-pseudo_byte c =
-    rw (
-      c.loop-i.invariant.1,
-      every_at c.args.s.now c.loop-i.i (omega arith) pseudo_byte,
-      ← c.pseudo_byte.ensures,
-      c.if-not-pseudo_byte.true,
-    )
-
-pub loop-i-preserved : goal.loop-i-preserved
-loop-i-preserved c =
-    (omega arith, rw (c.loop-i.invariant.1, every_at c.args.s.now c.loop-i.i (omega arith) pseudo_byte, ← c.pseudo_byte.ensures, c.if-not-pseudo_byte.false))
-
 pub returns : goal.returns
-returns c = rw (c.loop-i.invariant.1, every_end c.args.s.now c.loop-i.i (omega arith) pseudo_byte)
+unfolding is_pseudo
+returns c =
+    all_from_yields_List (λ b. pseudo_byte b) _ _ _ c.all.ensures.ran (YieldsList-from_slice c.args.s.now cc) (λ x b q k. search (rules, tests))
+    ∙ every_all pseudo_byte c.args.s.now

@@ -1,41 +1,23 @@
+use Rattle.std.proofs.Common.{rules}
+use borrow.Author.Tests.{leb-true}
 use lib.ListN.{length}
-use borrow.Author.Tests.{le-leb, lt-leb}
 use Rattle.names.specs.Name.{longest}
-use Rattle.names.specs.Namespace.{names_check}
+use Rattle.names.proofs.Rows.{namespace_rows, partial_fits}
 use Rattle.names.proofs.namespace.check_namespace.Goals as goal
 
--- 3 where the bytes do not fit, then 4, then 5.
-pub returns-then-s-gt-LONGEST : goal.returns-then-s-gt-LONGEST
-unfolding names_check
-returns-then-s-gt-LONGEST c = rw (lt-leb (length c.args.s.now) longest c.if-s-gt-LONGEST.true)
+-- As a partial name, and then 5.
+pub returns-in_err-check_partial : goal.returns-in_err-check_partial
+returns-in_err-check_partial c =
+    let k = c.in_err-check_partial.ensures in
+    rw (namespace_rows c.args.s.now, ← k) (search rules)
 
-pub returns-then-not-well_formed : goal.returns-then-not-well_formed
-unfolding names_check
-returns-then-not-well_formed c =
-    rw (
-      le-leb (length c.args.s.now) longest c.if-s-gt-LONGEST.false,
-      ← c.well_formed-2.ensures,
-      c.if-not-well_formed.true,
-    )
+pub expansion_fits-requires : goal.expansion_fits-requires
+expansion_fits-requires c =
+    let s = c.args.s.now in
+    leb-true (length s) longest (partial_fits s c.in_ok-check_partial.ensures)
 
-pub returns-then-not-expansion_fits : goal.returns-then-not-expansion_fits
-unfolding names_check
-returns-then-not-expansion_fits c =
-    rw (
-      le-leb (length c.args.s.now) longest c.if-s-gt-LONGEST.false,
-      ← c.well_formed-2.ensures,
-      c.if-not-well_formed.false,
-      ← c.expansion_fits.ensures,
-      c.if-not-expansion_fits.true,
-    )
+pub returns-then-expansion_fits : goal.returns-then-expansion_fits
+returns-then-expansion_fits c = rw (namespace_rows c.args.s.now, ← c.in_ok-check_partial.ensures, ← c.expansion_fits.ensures, c.if-expansion_fits.true)
 
-pub returns : goal.returns
-unfolding names_check
-returns c =
-    rw (
-      le-leb (length c.args.s.now) longest c.if-s-gt-LONGEST.false,
-      ← c.well_formed-2.ensures,
-      c.if-not-well_formed.false,
-      ← c.expansion_fits.ensures,
-      c.if-not-expansion_fits.false,
-    )
+pub returns-else-expansion_fits : goal.returns-else-expansion_fits
+returns-else-expansion_fits c = rw (namespace_rows c.args.s.now, ← c.in_ok-check_partial.ensures, ← c.expansion_fits.ensures, c.if-expansion_fits.false)

@@ -1,12 +1,26 @@
-use Rattle.names.proofs.Rows.{accepted_is, refused_is}
+use Rattle.std.proofs.Common.{rules}
+use Rattle.names.specs.Namespace.{expand}
+use Rattle.names.proofs.Held.{fits_is, fits_there, fits_not}
+use Rattle.names.proofs.Rows.{expanded_is, namespace_rows}
 use Rattle.names.proofs.namespace.expand.Goals as goal
 
-pub returns-in-Accepted : goal.returns-in-Accepted
-returns-in-Accepted c =
-    let v = c.check_namespace-verdict in
-    accepted_is c.args.s.now v.result v.ensures c.in-Accepted.is _ c.expansion-n.ensures
+pub returns-in_err-check_partial : goal.returns-in_err-check_partial
+returns-in_err-check_partial c =
+    let k = c.in_err-check_partial.ensures in
+    rw (expanded_is c.args.s.now, namespace_rows c.args.s.now, ← k) (search rules)
 
-pub returns-in-Refused : goal.returns-in-Refused
-returns-in-Refused c =
-    let v = c.check_namespace-verdict in
-    rw c.refused.ensures (refused_is c.args.s.now v.result v.ensures _ c.in-Refused.is)
+pub returns-in-Some : goal.returns-in-Some
+returns-in-Some c =
+    let s = c.args.s.now in
+    rw (
+      expanded_is s,
+      namespace_rows s,
+      ← c.in_ok-check_partial.ensures,
+      fits_there (expand s) _ c.in-Some.ensures,
+      fits_is (expand s) _ c.in-Some.ensures,
+    )
+
+pub returns-in-None : goal.returns-in-None
+returns-in-None c =
+    let s = c.args.s.now in
+    rw (expanded_is s, namespace_rows s, ← c.in_ok-check_partial.ensures, fits_not (expand s) c.in-None.ensures)

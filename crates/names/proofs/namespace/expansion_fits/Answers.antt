@@ -1,9 +1,5 @@
 use Rattle.names.proofs.Expansions.{short_fits}
 use Rattle.names.proofs.namespace.expansion_fits.Goals as goal
 
--- A short one by the law, else by the length.
 pub returns-then-s-le-SHORT : goal.returns-then-s-le-SHORT
 returns-then-s-le-SHORT c = rw (short_fits c.args.s.now c.if-s-le-SHORT.true)
-
-pub returns : goal.returns
-returns c = rw (← c.expansion_len.ensures)

@@ -1,18 +1,11 @@
 use mathlib.Core.Path.{◌∙◌}
 use native.Mathlib.Omega.{arith}
-use lib.ListN.{length-drop}
 use Rattle.names.proofs.Parts.{tail_part}
 use Rattle.names.proofs.ByteRules.{rules_at, rules_end, step_fits}
 use Rattle.names.proofs.validate.all_fit.Goals as goal
 
-pub byte_before-p-requires : goal.byte_before-p-requires
-byte_before-p-requires c = c.sure_front-i.ensures.0
-
 pub loop-i-init : goal.loop-i-init
-loop-i-init c = (c.sure_front-i.ensures.0, rw c.byte_before-p.ensures c.sure_front-i.ensures.1)
-
-pub fits_after-requires : goal.fits_after-requires
-fits_after-requires c = rw tail_part (simp length-drop (omega arith))
+loop-i-init c = (c.sure_front-start.ensures.0, rw c.byte_before-p.ensures c.sure_front-start.ensures.1)
 
 pub returns-then-not-fits_after : goal.returns-then-not-fits_after
 returns-then-not-fits_after c =

@@ -1,32 +1,34 @@
-use mathlib.Core.Path.{refl, sym, ◌∙◌}
+use mathlib.Core.Path.{◌≡◌, refl, sym, ◌∙◌}
 use native.Mathlib.Omega.{arith}
+use Prim.Native.Nat.{◌+◌}
 use Rattle.names.proofs.ByteRules.{before_next, first_plain, rules_sure}
 use Rattle.names.proofs.validate.sure_front.Goals as goal
 
-pub returns-then-s-lt10 : goal.returns-then-s-lt10
-returns-then-s-lt10 c = (omega arith, refl)
-
-pub returns-then-not-is_plain : goal.returns-then-not-is_plain
-returns-then-not-is_plain c = (omega arith, refl)
-
 pub loop-i-init : goal.loop-i-init
-loop-i-init c = (omega arith, first_plain c.args.s.now (omega arith) (sym c.is_plain.ensures ∙ c.if-not-is_plain.false))
-
-pub eight_sure-requires : goal.eight_sure-requires
-eight_sure-requires c = omega arith
+loop-i-init c = record {
+  next = refl;
+  within = omega arith;
+  same = first_plain c.args.s.now (omega arith) (sym c.is_plain.ensures ∙ c.if-not-is_plain.false);
+}
 
 pub returns-then-not-eight_sure : goal.returns-then-not-eight_sure
 returns-then-not-eight_sure c =
-    let l = c.loop-i in
-    (l.invariant.0, rw before_next l.invariant.1)
+    let l = c.loop-i.invariant in
+    (l.within, rw (l.next, before_next) l.same)
 
 pub loop-i-preserved : goal.loop-i-preserved
 loop-i-preserved c =
     let l = c.loop-i in
-    let e = c.eight_sure in
-    (omega arith, l.invariant.1 ∙ rules_sure c.args.s.now l.i 8 (omega arith) (sym e.ensures ∙ c.if-not-eight_sure.false))
+    let s = c.args.s.now in
+    record {
+      next = omega arith;
+      within = omega arith;
+      same = l.invariant.same ∙ rules_sure s l.i 8 (omega arith) (sym c.eight_sure.ensures ∙ c.if-not-eight_sure.false);
+    }
 
-pub returns : goal.returns
-returns c =
+pub returns-else-not-eight_sure : goal.returns-else-not-eight_sure
+returns-else-not-eight_sure c =
     let l = c.loop-i in
-    (l.invariant.0, rw before_next l.invariant.1)
+    let s = c.args.s.now in
+    let n : l.i + 9 ≡ l.i + 8 + 1 = omega arith in
+    (omega arith, rw (n, before_next) (l.invariant.same ∙ rules_sure s l.i 8 (omega arith) (sym c.eight_sure.ensures ∙ c.if-not-eight_sure.false)))

@@ -1,33 +1,29 @@
-use mathlib.Core.Path.{sym, ◌∙◌}
-use Rattle.names.specs.Namespace.{expansion}
-use Rattle.blocks.specs.Snapshot.{store, store_flaw}
-use Rattle.blocks.specs.Means.{id_width, if_there, snapshot_of}
-use Rattle.refs.specs.Search.{call_check}
-use Rattle.refs.proofs.Checks.{gate_passes, fit_regions}
-use Rattle.refs.proofs.Calls.{found_stops, found_passes}
+use mathlib.Core.Path.{◌∙◌}
+use Rattle.std.specs.Option.{option_map}
+use Rattle.std.proofs.lemmas.Result.{err_from_is_err_and}
 use Rattle.names.specs.Means.{content}
-use Rattle.refs.proofs.Lookups.{hit_answer}
+use Rattle.blocks.specs.Means.{snapshot_of}
+use Rattle.refs.proofs.Calls.{find_turned, find_answers}
 use Rattle.refs.proofs.find.find.Goals as goal
 
-pub returns-then-not-is_passed : goal.returns-then-not-is_passed
-returns-then-not-is_passed c =
-    let args = c.args in
-    let call = c.check_call-call in
-    found_stops (snapshot_of args.worktree.now (if_there args.has_common args.common.now) args.packed.now) args.name.now (if_there args.has_namespace args.namespace.now) call.result.gate _ call.ensures (sym c.is_passed.ensures ∙ c.if-not-is_passed.true) _
+pub returns-in_err-call : goal.returns-in_err-call
+returns-in_err-call c =
+    let p = err_from_is_err_and c.from_residual.result c.from_residual.ensures.1 in
+    rw (p.1, p.2) (find_turned (snapshot_of c.args.snapshot) c.args.name.now (option_map (λ s. s.now) c.args.namespace) _ c.in_err-call.ensures.call)
 
-pub find_one_with_verified_input-h-requires : goal.find_one_with_verified_input-h-requires
-find_one_with_verified_input-h-requires c =
-    let args = c.args in
-    let call = c.check_call-call in
-    fit_regions (snapshot_of args.worktree.now (if_there args.has_common args.common.now) args.packed.now)
-    (gate_passes (call_check (snapshot_of args.worktree.now (if_there args.has_common args.common.now) args.packed.now) args.name.now (if_there args.has_namespace args.namespace.now)) (store_flaw (store id_width (snapshot_of args.worktree.now (if_there args.has_common args.common.now) args.packed.now))) (expansion (if_there args.has_namespace args.namespace.now)) call.result.gate _ call.ensures (sym c.is_passed.ensures ∙ c.if-not-is_passed.false)).no_flaw
+pub returns-in_err-reference-in-Some : goal.returns-in_err-reference-in-Some
+returns-in_err-reference-in-Some c =
+    let p = err_from_is_err_and c.from_residual-in_err-reference-in-Some.result c.from_residual-in_err-reference-in-Some.ensures.1 in
+    let found = rw (c.in_ok-call.ensures.same, c.as_bytes-e.ensures.bytes) at c.in-Some.ensures in
+    let said = rw c.as_bytes-e.ensures.bytes at c.in_err-reference-in-Some.ensures in
+    rw (p.1, p.2) (find_answers (snapshot_of c.args.snapshot) c.args.name.now (option_map (λ s. s.now) c.args.namespace) (content c.in_ok-call.call.expansion) c.in_ok-call.ensures.call _ (said ∙ found))
 
-pub returns : goal.returns
-returns c =
-    let args = c.args in
-    let call = c.check_call-call in
-    let said = c.said_of-said in
-    let hit = rw c.lend.ensures at c.find_one_with_verified_input-h.ensures in
-    let e = content call.result.expansion in
-    found_passes (snapshot_of args.worktree.now (if_there args.has_common args.common.now) args.packed.now) args.name.now (if_there args.has_namespace args.namespace.now) call.result.gate _ call.ensures (sym c.is_passed.ensures ∙ c.if-not-is_passed.false) _
-    (sym (hit_answer e args.worktree.now args.common.now args.packed.now c.find_one_with_verified_input-h.result _ hit said.result said.ensures c.reference_of-reference.result (rw c.lend-2.ensures at c.reference_of-reference.ensures)))
+pub returns-in_ok-reference-in-Some : goal.returns-in_ok-reference-in-Some
+returns-in_ok-reference-in-Some c =
+    let found = rw (c.in_ok-call.ensures.same, c.as_bytes-e.ensures.bytes) at c.in-Some.ensures in
+    let said = rw c.as_bytes-e.ensures.bytes at c.in_ok-reference-in-Some.ensures in
+    find_answers (snapshot_of c.args.snapshot) c.args.name.now (option_map (λ s. s.now) c.args.namespace) (content c.in_ok-call.call.expansion) c.in_ok-call.ensures.call _ (said ∙ found)
+
+pub returns-in-None : goal.returns-in-None
+returns-in-None c =
+    find_answers (snapshot_of c.args.snapshot) c.args.name.now (option_map (λ s. s.now) c.args.namespace) (content c.in_ok-call.call.expansion) c.in_ok-call.ensures.call _ (rw (c.in_ok-call.ensures.same, c.as_bytes-e.ensures.bytes) at c.in-None.ensures)

@@ -1,39 +1,40 @@
-use mathlib.Core.Path.{refl, sym, ◌∙◌}
-use Rattle.blocks.specs.Means.{if_there, snapshot_of}
-use Rattle.refs.proofs.Lookups.{same_place}
-use Rattle.refs.proofs.Searching.{search_first, search_one, search_second, search_last}
+use mathlib.Core.Path.{◌∙◌, sym}
+use Rattle.std.specs.Prelude.{true, false}
+use Rattle.names.proofs.Passes.{pass_is}
+use Rattle.blocks.specs.Means.{snapshot_of}
+use Rattle.refs.proofs.Searching.{pseudo_first, pseudo_second, pseudo_last, found_first, found_last}
 use Rattle.refs.proofs.find.find_one_with_verified_input.Goals as goal
 
-pub returns-then-is_somewhere : goal.returns-then-is_somewhere
-returns-then-is_somewhere c =
-    let args = c.args in
-    let pseudo = c.is_pseudo_ref-pseudo in
-    let first = c.one_pass-a.ensures in
-    same_place args.e.now args.worktree.now args.common.now args.packed.now _ _ _ _
-    (search_first args.e.now (snapshot_of args.worktree.now (if_there args.has_common args.common.now) args.packed.now) args.x.now pseudo.result pseudo.ensures first.answer first.first (first.hit.there ∙ sym c.is_somewhere.ensures ∙ c.if-is_somewhere.true)) first.hit
+pub returns-then-is_some : goal.returns-then-is_some
+returns-then-is_some c =
+    let x = c.args.x.now in
+    pseudo_first c.args.e.now (snapshot_of c.args.s.snapshot) x c.one_pass-itself.result (sym c.if-is_pseudo_ref.true ∙ c.is_pseudo_ref.ensures)
+    (λ rest. rw (pass_is x true) (c.one_pass-itself.ensures rest)) (sym c.is_some.ensures ∙ c.if-is_some.true)
 
-pub returns-then-not-pseudo : goal.returns-then-not-pseudo
-returns-then-not-pseudo c =
-    let args = c.args in
-    let pseudo = c.is_pseudo_ref-pseudo in
-    let first = c.one_pass-a.ensures in
-    same_place args.e.now args.worktree.now args.common.now args.packed.now _ _ _ _
-    (search_one args.e.now (snapshot_of args.worktree.now (if_there args.has_common args.common.now) args.packed.now) args.x.now pseudo.result pseudo.ensures first.answer first.first (first.hit.there ∙ sym c.is_somewhere.ensures ∙ c.if-is_somewhere.false) c.if-not-pseudo.true _ refl) c.try_remote_head.ensures
+pub returns-then-is_some-2 : goal.returns-then-is_some-2
+returns-then-is_some-2 c =
+    let x = c.args.x.now in
+    pseudo_second c.args.e.now (snapshot_of c.args.s.snapshot) x c.one_pass-itself.result (sym c.if-is_pseudo_ref.true ∙ c.is_pseudo_ref.ensures)
+    (λ rest. rw (pass_is x true) (c.one_pass-itself.ensures rest)) (sym c.is_some.ensures ∙ c.if-is_some.false)
+    c.one_pass-hit.result (λ rest. rw (pass_is x false) (c.one_pass-hit.ensures rest)) (sym c.is_some-then-is_pseudo_ref.ensures ∙ c.if-is_some-2.true)
 
-pub returns-then-is_somewhere-2 : goal.returns-then-is_somewhere-2
-returns-then-is_somewhere-2 c =
-    let args = c.args in
-    let pseudo = c.is_pseudo_ref-pseudo in
-    let first = c.one_pass-a.ensures in
-    let second = c.one_pass-b.ensures in
-    same_place args.e.now args.worktree.now args.common.now args.packed.now _ _ _ _
-    (search_second args.e.now (snapshot_of args.worktree.now (if_there args.has_common args.common.now) args.packed.now) args.x.now pseudo.result pseudo.ensures first.answer first.first (first.hit.there ∙ sym c.is_somewhere.ensures ∙ c.if-is_somewhere.false) c.if-not-pseudo.false second.answer second.first (second.hit.there ∙ sym c.is_somewhere-2.ensures ∙ c.if-is_somewhere-2.true)) second.hit
+pub returns-then-is_pseudo_ref : goal.returns-then-is_pseudo_ref
+returns-then-is_pseudo_ref c =
+    let x = c.args.x.now in
+    c.try_remote_head.ensures
+    ∙ pseudo_last c.args.e.now (snapshot_of c.args.s.snapshot) x c.one_pass-itself.result (sym c.if-is_pseudo_ref.true ∙ c.is_pseudo_ref.ensures)
+    (λ rest. rw (pass_is x true) (c.one_pass-itself.ensures rest)) (sym c.is_some.ensures ∙ c.if-is_some.false)
+    c.one_pass-hit.result (λ rest. rw (pass_is x false) (c.one_pass-hit.ensures rest)) (sym c.is_some-then-is_pseudo_ref.ensures ∙ c.if-is_some-2.false)
+
+pub returns-then-is_some-3 : goal.returns-then-is_some-3
+returns-then-is_some-3 c =
+    let x = c.args.x.now in
+    found_first c.args.e.now (snapshot_of c.args.s.snapshot) x c.one_pass-hit-2.result (sym c.if-is_pseudo_ref.false ∙ c.is_pseudo_ref.ensures)
+    (λ rest. rw (pass_is x true) (c.one_pass-hit-2.ensures rest)) (sym c.is_some-2.ensures ∙ c.if-is_some-3.true)
 
 pub returns : goal.returns
 returns c =
-    let args = c.args in
-    let pseudo = c.is_pseudo_ref-pseudo in
-    let first = c.one_pass-a.ensures in
-    let second = c.one_pass-b.ensures in
-    same_place args.e.now args.worktree.now args.common.now args.packed.now _ _ _ _
-    (search_last args.e.now (snapshot_of args.worktree.now (if_there args.has_common args.common.now) args.packed.now) args.x.now pseudo.result pseudo.ensures first.answer first.first (first.hit.there ∙ sym c.is_somewhere.ensures ∙ c.if-is_somewhere.false) c.if-not-pseudo.false second.answer second.first (second.hit.there ∙ sym c.is_somewhere-2.ensures ∙ c.if-is_somewhere-2.false) _ refl) c.try_remote_head-2.ensures
+    let x = c.args.x.now in
+    c.try_remote_head-2.ensures
+    ∙ found_last c.args.e.now (snapshot_of c.args.s.snapshot) x c.one_pass-hit-2.result (sym c.if-is_pseudo_ref.false ∙ c.is_pseudo_ref.ensures)
+    (λ rest. rw (pass_is x true) (c.one_pass-hit-2.ensures rest)) (sym c.is_some-2.ensures ∙ c.if-is_some-3.false)

@@ -1,11 +1,9 @@
-use Prim.Native.Nat.{◌-◌}
-use Rattle.blocks.specs.Means.{if_there, snapshot_of}
-use Rattle.refs.proofs.Searching.{Stands}
+use lib.ListN.{drop}
+use Rattle.blocks.specs.Means.{snapshot_of}
+use Rattle.refs.specs.Promises.{full_names}
+use Rattle.refs.proofs.Searching.{Left}
 use Rattle.refs.proofs.find.one_pass.Given as goal
 
-abbrev pub invariant-try_directories : goal.invariant-try_directories
-invariant-try_directories l =
-    Stands l.e (snapshot_of l.worktree (if_there l.has_common l.common) l.packed) l.x l.pseudo l.one l.d
-
-abbrev pub decreases-try_directories : goal.decreases-try_directories
-decreases-try_directories l = 4 - l.d
+abbrev pub invariant-loop-between : goal.invariant-loop-between
+invariant-loop-between l =
+    Left l.e (snapshot_of l.s.snapshot) (full_names l.pseudo l.x l.directories) (full_names l.pseudo l.x (drop l.between-index l.directories))

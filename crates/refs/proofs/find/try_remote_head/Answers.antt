@@ -1,18 +1,27 @@
-use mathlib.Core.Path.{refl, sym, ◌∙◌}
-use Rattle.blocks.specs.Means.{if_there, snapshot_of}
-use Rattle.refs.proofs.Lookups.{same_place}
+use mathlib.Core.Path.{◌∙◌, sym}
+use Rattle.std.specs.Prelude.{None, Some, false}
+use Rattle.blocks.specs.Means.{snapshot_of}
+use Rattle.blocks.specs.Means.{entry_as}
+use Rattle.refs.proofs.Lookups.{absent_looked_up, held_looked_up}
 use Rattle.refs.proofs.Searching.{last_none, last_one}
 use Rattle.refs.proofs.find.try_remote_head.Goals as goal
 
 pub returns-then-equal : goal.returns-then-equal
-returns-then-equal c =
-    let args = c.args in
-    same_place args.e.now args.worktree.now args.common.now args.packed.now _ _ _ _
-    (last_none args.e.now (snapshot_of args.worktree.now (if_there args.has_common args.common.now) args.packed.now) args.x.now (sym c.equal.ensures ∙ c.if-equal.true)) (c.no_hit.ensures args.e.now args.worktree.now args.common.now args.packed.now)
+returns-then-equal c = last_none c.args.e.now (snapshot_of c.args.s.snapshot) c.args.x.now (sym c.equal.ensures ∙ c.if-equal.true)
+
+pub returns-in_err-name : goal.returns-in_err-name
+returns-in_err-name c =
+    rw c.from_residual.ensures
+    (last_one c.args.e.now (snapshot_of c.args.s.snapshot) c.args.x.now (sym c.equal.ensures ∙ c.if-equal.false) _
+    (absent_looked_up c.args.e.now (snapshot_of c.args.s.snapshot) _ false c.in_err-name.ensures))
+
+pub returns-in_err-entry : goal.returns-in_err-entry
+returns-in_err-entry c =
+    rw c.from_residual-in_err-entry.ensures
+    (last_one c.args.e.now (snapshot_of c.args.s.snapshot) c.args.x.now (sym c.equal.ensures ∙ c.if-equal.false) _
+    (held_looked_up c.args.e.now (snapshot_of c.args.s.snapshot) _ false _ c.in_ok-name.ensures None (rw c.as_bytes.ensures.bytes at c.in_err-entry.ensures)))
 
 pub returns : goal.returns
 returns c =
-    let args = c.args in
-    same_place args.e.now args.worktree.now args.common.now args.packed.now _ _ _ _
-    (last_one args.e.now (snapshot_of args.worktree.now (if_there args.has_common args.common.now) args.packed.now) args.x.now (sym c.equal.ensures ∙ c.if-equal.false) _ refl)
-    (rw c.filled_len-len.ensures (c.lookup_filled-place.ensures _ c.remote_head_candidate-f.ensures))
+    last_one c.args.e.now (snapshot_of c.args.s.snapshot) c.args.x.now (sym c.equal.ensures ∙ c.if-equal.false) _
+    (held_looked_up c.args.e.now (snapshot_of c.args.s.snapshot) _ false _ c.in_ok-name.ensures (Some (entry_as c.in_ok-entry.entry.entry)) (rw c.as_bytes.ensures.bytes at c.in_ok-entry.ensures))

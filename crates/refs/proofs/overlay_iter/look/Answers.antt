@@ -1,28 +1,28 @@
-use Rattle.blocks.specs.Means.{region_of}
-use Rattle.refs.proofs.ListWaits.{look_error, look_name, look_past}
+use Rattle.blocks.specs.Means.{region_of, entry_as}
+use Rattle.refs.proofs.Whole.{entry_whole}
+use Rattle.refs.proofs.ListWaits.{look_none, look_error, look_name, look_past}
 use Rattle.refs.proofs.overlay_iter.look.Goals as goal
+use Rattle.refs.proofs.overlay_iter.look.Goals.{in_default-via-in-Some+else-not-shows, in_default-via-in_default}
 
-pub returns-then-is_error : goal.returns-then-is_error
-returns-then-is_error c =
-    let args = c.args in
-    let entry-kind = c.entry_kind-kind in
-    look_error (region_of args.region) args.s.now args.e.now args.k entry-kind.result c.requires
-    entry-kind.ensures _ c.is_error.ensures c.if-is_error.true
+pub returns-in_err-entry-clause-waits : goal.returns-in_err-entry-clause-waits
+returns-in_err-entry-clause-waits c = look_none (region_of c.args.region) c.args.s.now c.args.e.now c.args.k c.requires c.in_err-entry.ensures
 
-pub returns-then-shows : goal.returns-then-shows
-returns-then-shows c =
+pub returns-in-Some-clause-waits : goal.returns-in-Some-clause-waits
+returns-in-Some-clause-waits c =
     let args = c.args in
-    let entry-kind = c.entry_kind-kind in
-    look_name (region_of args.region) args.s.now args.e.now args.k entry-kind.result
-    c.requires entry-kind.ensures _
-    c.is_error.ensures c.if-is_error.false _
-    (rw c.block_name.ensures at c.shows.ensures) c.if-shows.true
+    look_past (region_of args.region) args.s.now args.e.now args.k c.requires c.in_ok-entry.entry c.in_ok-entry.ensures
+    c.in-Some.n.now c.in-Some.ensures c.shows.result c.shows.ensures c.if-not-shows.true
 
-pub returns : goal.returns
-returns c =
+pub returns-in_default-clause-waits : goal.returns-in_default-clause-waits
+returns-in_default-clause-waits c =
     let args = c.args in
-    let entry-kind = c.entry_kind-kind in
-    look_past (region_of args.region) args.s.now args.e.now args.k entry-kind.result
-    c.requires entry-kind.ensures _
-    c.is_error.ensures c.if-is_error.false _
-    (rw c.block_name.ensures at c.shows.ensures) c.if-shows.false
+    elim c.in_default.branch [
+      | in_default-via-in-Some+else-not-shows w ↦ look_name (region_of args.region) args.s.now args.e.now args.k c.requires c.in_ok-entry.entry c.in_ok-entry.ensures
+          w.in-Some.n.now w.in-Some.ensures w.shows.result w.shows.ensures w.if-not-shows.false
+      | in_default-via-in_default w ↦ look_error (region_of args.region) args.s.now args.e.now args.k c.requires c.in_ok-entry.entry c.in_ok-entry.ensures w.in_default.ensures
+    ]
+
+pub invariant_of-found : goal.invariant_of-found
+invariant_of-found c = record {
+  within = entry_whole (region_of c.args.region) c.args.s.now c.args.k (entry_as c.in_ok-entry.entry) c.in_ok-entry.ensures;
+}

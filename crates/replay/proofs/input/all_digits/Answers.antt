@@ -1,19 +1,15 @@
-use Prim.Native.Nat.{◌-◌}
-use native.Mathlib.Omega.{arith}
-use Rattle.names.proofs.Walks.{every_at, every_end}
+use Rattle.std.proofs.Common.{refl, sym, ◌∙◌, ◌&&◌, rules, tests}
+use Rattle.std.proofs.lemmas.Iterator.{YieldsList-from_slice}
+use Rattle.std.proofs.lemmas.Iterator.Search.{all_from_yields_List}
+use Rattle.std.proofs.lemmas.List.Recursion.{same_from_clauses}
+use Rattle.std.specs.List.{list_all}
+use Rattle.names.specs.Bytes.{every}
+use Rattle.names.proofs.Walks.{every_none, every_more}
 use Rattle.replay.specs.Input.{is_digit}
 use Rattle.replay.proofs.input.all_digits.Goals as goal
 
-pub returns-then-not-is_digit : goal.returns-then-not-is_digit
-returns-then-not-is_digit c =
-    rw (c.loop-i.invariant.1, every_at _ _ c.loop-i-test.true is_digit, ← c.is_digit.ensures, c.if-not-is_digit.true)
-
-pub loop-i-preserved : goal.loop-i-preserved
-loop-i-preserved c =
-    let at = c in (
-      omega arith,
-      rw (at.loop-i.invariant.1, every_at _ _ c.loop-i-test.true is_digit, ← c.is_digit.ensures, c.if-not-is_digit.false),
-    )
-
 pub returns : goal.returns
-returns c = rw (c.loop-i.invariant.1, every_end c.args.s.now c.loop-i.i (omega arith) is_digit)
+returns c =
+    let s = c.args.s.now in
+    all_from_yields_List is_digit _ _ _ c.all.ensures.ran (YieldsList-from_slice s cc) (λ x b q k. search (rules, tests))
+    ∙ same_from_clauses (list_all is_digit) (every is_digit) (λ b r. is_digit b && r) (sym (every_none is_digit)) (λ _ _. refl) (every_more is_digit) s

@@ -1,21 +1,26 @@
-use Prim.Native.Nat.{◌+◌, ◌-◌, ◌*◌}
-use native.Mathlib.Omega.{arith}
-use lib.ListN.{length-set}
-use Rattle.replay.proofs.Digits.{pair_more, pairs_end}
+use Rattle.std.proofs.Common.{arith, ◌+◌, ◌*◌, ◌/◌, length, refl}
+use Rattle.replay.proofs.Digits.{in_chunks, pair_more, pairs_end}
 use Rattle.replay.proofs.input.decode_pairs.Goals as goal
 
-pub loop-i-preserved : goal.loop-i-preserved
-loop-i-preserved c =
-    let at = c in
-    let s = at.args.s.now in
+pub loop-high-init : goal.loop-high-init
+loop-high-init c =
+    let s = c.args.s.now in
+    record { count = rw c.clear.ensures; so_far = rw (c.clear.ensures, c.as_chunks.ensures.front) (in_chunks (length s / 2) s refl) }
+
+pub push-requires : goal.push-requires
+push-requires c = omega (arith, c.loop-high.invariant.count, c.as_chunks.ensures.front_len)
+
+pub loop-high-preserved : goal.loop-high-preserved
+loop-high-preserved c =
+    let l = c.loop-high in
     let x = c.digit_value.result in
-    let y = c.digit_value-in-loop-i.result in
+    let y = c.digit_value-in-loop-high.result in
     let p = c.digit_value.ensures.0 in
-    let q = c.digit_value-in-loop-i.ensures.0 in
-    (omega arith, simp length-set at.loop-i.invariant.1, pair_more s at.loop-i.to at.loop-i.i (x * 16 + y) (omega arith) (omega arith) (cc) at.loop-i.invariant.2)
+    let q = c.digit_value-in-loop-high.ensures.0 in
+    record {
+      count = omega (arith, c.push.ensures.len, l.invariant.count);
+      so_far = rw c.push.ensures.items (pair_more c.as_chunks.result.0.now l.to.items _ l.high-index (x * 16 + y) (omega arith) (cc) l.invariant.so_far);
+    }
 
 pub returns : goal.returns
-returns c =
-    let at = c in
-    let s = at.args.s.now in
-    pairs_end s at.loop-i.to at.loop-i.i (omega arith) at.loop-i.invariant.2
+returns c = pairs_end c.as_chunks.result.0.now c.loop-high.to.items _ c.loop-high.high-index (omega arith) c.loop-high.invariant.so_far

@@ -1,13 +1,8 @@
-use mathlib.Core.Path.{◌≡◌}
-use mathlib.Core.List.{◌++◌}
-use Prim.Native.Nat.{◌+◌, ◌≤◌, ◌-◌, ◌*◌}
-use lib.ListN.{take, drop, length}
+use Rattle.std.proofs.Common.{◌≡◌, ◌++◌, length, drop}
 use Rattle.replay.specs.Input.{pairs}
+use Rattle.replay.proofs.Digits.{decoded}
 use Rattle.replay.proofs.input.decode_pairs.Given as goal
 
 -- The invariant: what was decoded, and what is left to decode.
-abbrev pub invariant-loop-i : goal.invariant-loop-i
-invariant-loop-i l = (l.i ≤ l.count) × (length l.to ≡ length l.initial.to) × (pairs l.s ≡ take l.i l.to ++ pairs (drop (l.i * 2) l.s))
-
-abbrev pub decreases-loop-i : goal.decreases-loop-i
-decreases-loop-i l = l.count - l.i
+abbrev pub invariant-loop-high : goal.invariant-loop-high
+invariant-loop-high l = record { count : length l.to.items ≡ l.high-index; so_far : pairs l.s ≡ l.to.items ++ decoded (drop l.high-index l.pairs) }

@@ -1,24 +1,13 @@
-use borrow.Author.Tests.{eq-eqb, ne_eqb, le-leb, lt-leb}
+use Rattle.std.proofs.Common.{arith}
+use Rattle.std.proofs.lemmas.Bool.Decides.{nat_tests}
 use Rattle.replay.specs.Input.{is_pairs}
 use Rattle.replay.proofs.input.is_pairs.Goals as goal
+use Rattle.replay.proofs.input.is_pairs.Goals.{then-s, else-s, then-not-is_empty, else-not-is_empty}
 
--- Test by test.
 pub returns-then-s-eq0 : goal.returns-then-s-eq0
 unfolding is_pairs
 returns-then-s-eq0 c =
-    rw (eq-eqb _ _ c.if-s-eq0.true)
-
-pub returns-then-s : goal.returns-then-s
-unfolding is_pairs
-returns-then-s c =
-    rw (ne_eqb _ _ c.if-s-eq0.false, lt-leb _ _ c.if-s.true)
-
-pub returns-then-s-ne0 : goal.returns-then-s-ne0
-unfolding is_pairs
-returns-then-s-ne0 c =
-    rw (ne_eqb _ _ c.if-s-eq0.false, le-leb _ _ c.if-s.false, ne_eqb _ _ c.if-s-ne0.true)
-
-pub returns : goal.returns
-unfolding is_pairs
-returns c =
-    rw (ne_eqb _ _ c.if-s-eq0.false, le-leb _ _ c.if-s.false, eq-eqb _ _ c.if-s-ne0.false) c.all_digits.ensures
+    elim c.if-s.branch [
+      | then-s w ↦ elim c.if-not-is_empty.branch [ then-not-is_empty v ↦ grind (arith, nat_tests) | else-not-is_empty v ↦ grind (arith, nat_tests) ]
+      | else-s w ↦ (cc)
+    ]

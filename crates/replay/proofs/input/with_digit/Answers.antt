@@ -1,30 +1,18 @@
-use mathlib.Core.Path.{◌≡◌, sym, ◌∙◌}
-use mathlib.Core.Bool.{false}
-use mathlib.Core.List.{[]}
-use Prim.Native.Nat.{◌+◌, ◌*◌, ◌-◌}
-use native.Mathlib.Omega.{arith}
-use Rattle.replay.specs.Input.{is_decimal}
-use Rattle.replay.proofs.Decimals.{decimal, decimal_below, decimal_above, no_digit, too_large, goes_on, nothing_behind}
+use Rattle.std.proofs.Common.{[], arith, sym, ◌∙◌}
+use Rattle.replay.proofs.Decimals.{decimal, no_digit, too_large, checked}
 use Rattle.replay.proofs.input.with_digit.Goals as goal
-use Rattle.replay.proofs.input.with_digit.Goals.{in_default-via-then-b-lt48, in_default-via-else-b-lt48+else-b-lt58}
 
-pub returns-then-value-d : goal.returns-then-value-d
-returns-then-value-d c =
+pub returns-then-not-is_ascii_digit : goal.returns-then-not-is_ascii_digit
+returns-then-not-is_ascii_digit c =
     let a = c.args in
-    c.no_number.ensures ∙ sym (too_large a.value a.b [] (omega arith))
+    sym (no_digit a.value a.b [] (sym (decimal a.b) ∙ sym c.is_ascii_digit.ensures.value ∙ c.if-not-is_ascii_digit.true))
 
-pub returns-else-value-d : goal.returns-else-value-d
-returns-else-value-d c =
-    let a = c.args in
-    sym (goes_on a.value a.b [] (decimal a.b (omega arith) (omega arith)) ∙ nothing_behind (a.value * 10 + (a.b - 48)) (omega arith))
+pub returns-in_err-checked_mul : goal.returns-in_err-checked_mul
+returns-in_err-checked_mul c =
+    c.from_residual.ensures ∙ sym (too_large c.args.value c.args.b [] (omega (arith, c.in_err-checked_mul.ensures)))
 
-pub returns-in_default : goal.returns-in_default
-returns-in_default c =
+pub returns : goal.returns
+returns c =
     let a = c.args in
-    let e : is_decimal a.b ≡ false =
-    elim c.in_default.branch [
-      | in_default-via-then-b-lt48 w ↦ decimal_below a.b (omega arith)
-      | in_default-via-else-b-lt48+else-b-lt58 w ↦ decimal_above a.b (omega arith)
-    ]
-    in
-    c.no_number-in_default.ensures ∙ sym (no_digit a.value a.b [] e)
+    let e = c.in_ok-checked_mul.ensures in
+    checked a.value a.b _ (sym (decimal a.b) ∙ sym c.is_ascii_digit.ensures.value ∙ c.if-not-is_ascii_digit.false) (rw (e.1, c.from.ensures) at c.checked_add.ensures)

@@ -5,4 +5,4 @@ use Rattle.text.proofs.reflist.put_error.Goals as goal
 
 pub returns : goal.returns
 unfolding error_line
-returns c = wider c.put_numbered.ensures (omega arith)
+returns c = rw (← c.from.ensures) (wider c.put_numbered.ensures (omega arith))

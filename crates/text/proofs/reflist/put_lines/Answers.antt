@@ -1,57 +1,23 @@
-use mathlib.Core.Path.{refl, ◌∙◌}
-use mathlib.Core.List.{◌++◌}
-use lib.ListN.{take}
-use Rattle.blocks.specs.Means.{if_there, snapshot_of}
-use Rattle.refs.specs.Means.{state_of}
-use Rattle.text.proofs.Runs.{lines, counted, weight_small, line_turned, count_turned, lines_done, count_done, lines_first, count_first}
+use mathlib.Core.Path.{◌≡◌}
+use Rattle.blocks.specs.Means.{snapshot_of}
+use Rattle.refs.specs.Means.{state_of, step_of}
+use Rattle.text.specs.Promises.{step_answer}
+use Rattle.text.proofs.Runs.{none_yet, one_more, weight_small}
 use native.Mathlib.Omega.{arith}
 use Rattle.text.proofs.reflist.put_lines.Goals as goal
 
-pub loop-i-init : goal.loop-i-init
-loop-i-init c =
-    let args = c.args in
-    let s = snapshot_of args.worktree.now (if_there args.has_common args.common.now) args.packed.now in (
-      omega arith,
-      refl,
-      omega arith,
-      omega arith,
-      lines_first s args.steps (state_of args.state) (take args.at args.out.now),
-      count_first s args.steps (state_of args.state),
-    )
-
-pub put_answer-end-requires : goal.put_answer-end-requires
-put_answer-end-requires c = omega (arith, c.requires)
+pub loop-init : goal.loop-init
+loop-init c = none_yet (snapshot_of c.args.s) 98304 (state_of c.args.listing) c.args.out.now
 
 pub overflow_add-count : goal.overflow_add-count
-overflow_add-count c = record { fits = omega (arith, c.weight-count.ensures, weight_small c.step-s.result.answer, c.requires) }
+overflow_add-count c = record { fits = omega (arith, c.loop.invariant.few, c.loop-test.true, c.ranges.steps, c.weight-count.ensures, weight_small (step_answer c.step-answer.result)) }
 
-pub loop-i-preserved : goal.loop-i-preserved
-loop-i-preserved c =
-    let args = c.args in
-    let s = snapshot_of args.worktree.now (if_there args.has_common args.common.now) args.packed.now in
-    let loop = c.loop-i in
-    let step = c.step-s in
-    let put = c.put_answer-end.ensures in
-    let weight = c.weight-count in (
-      omega arith,
-      put.put.size ∙ loop.invariant.1,
-      omega (arith, put.within),
-      omega (arith, weight.ensures, weight_small step.result.answer),
-      line_turned s args.steps loop.i (state_of loop.waiting) step.result (omega arith) step.ensures put.put loop.invariant.4,
-      count_turned s args.steps loop.i (state_of loop.waiting) step.result weight.result loop.count (counted s args.steps (state_of args.state)) (omega arith) step.ensures weight.ensures loop.invariant.5,
-    )
-
-pub shape_of-out : goal.shape_of-out
-shape_of-out c = c.loop-i.invariant.1
+pub loop-preserved : goal.loop-preserved
+loop-preserved c =
+    let loop = c.loop in
+    one_more (snapshot_of c.args.s) 98304 (state_of c.args.listing) c.args.out.now loop.counter (state_of loop.waiting) loop.out c.put_answer.new.out loop.count c.weight-count.result (step_of c.step-answer.result c.step-answer.new.self) c.step-answer.ensures c.weight-count.ensures c.put_answer.ensures loop.invariant
 
 pub returns : goal.returns
 returns c =
-    let args = c.args in
-    let s = snapshot_of args.worktree.now (if_there args.has_common args.common.now) args.packed.now in
-    let loop = c.loop-i in
-    record {
-      text = lines_done s args.steps loop.i (state_of loop.waiting) loop.out (take args.at args.out.now ++ lines s args.steps (state_of args.state)) loop.end (omega arith) loop.invariant.4;
-      counted = count_done s args.steps loop.i (state_of loop.waiting) loop.count (counted s args.steps (state_of args.state)) (omega arith) loop.invariant.5;
-      size = loop.invariant.1;
-      ends_within = omega (arith, loop.invariant.2);
-    }
+    let all : c.loop.counter ≡ c.args.steps = omega (arith, c.loop-test.false, c.loop.auto.counter-end) in
+    rw (← all) (record { text = c.loop.invariant.text; counted = c.loop.invariant.counts })

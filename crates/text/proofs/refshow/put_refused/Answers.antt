@@ -1,7 +1,7 @@
 use Rattle.text.specs.Refshow.{refused_line}
-use Rattle.text.proofs.Puts.{then_within, within_then, both_within}
+use Rattle.text.proofs.Puts.{◌then◌, wider}
 use Rattle.text.proofs.refshow.put_refused.Goals as goal
 
 pub returns : goal.returns
 unfolding refused_line
-returns c = within_then (both_within (within_then (then_within c.put-a.ensures c.put_number-b.ensures) c.put-c.ensures) c.put_words-d.ensures) c.put.ensures
+returns c = rw (← c.words.ensures.text, ← c.from.ensures) (c.put.ensures then c.put_number.ensures then c.put-2.ensures then wider c.put-3.ensures c.words.ensures.short then c.put-4.ensures)

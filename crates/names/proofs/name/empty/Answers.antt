@@ -1,8 +1,0 @@
-use mathlib.Core.Path.{refl}
-use Rattle.names.specs.Means.{held}
-use Rattle.names.proofs.name.empty.Goals as goal
-
--- No bytes are held.
-pub returns : goal.returns
-unfolding held
-returns c = refl

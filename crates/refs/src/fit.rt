@@ -1,0 +1,135 @@
+// A snapshot that is fit for search, and its regions.
+ghost use Rattle.std.specs.Prelude.{◌≡◌, true, None, Some, IfOk, IfErr};
+ghost use Rattle.std.specs.Option.{option_map};
+ghost use Rattle.names.specs.Bytes.{Bytes};
+ghost use Rattle.names.specs.Means.{base_of, path};
+ghost use Rattle.names.specs.Route.{own, shared};
+ghost use Rattle.blocks.specs.Entry.{entries};
+ghost use Rattle.blocks.specs.Fitness.{first_flaw};
+ghost use Rattle.blocks.specs.Snapshot.{region_at, store, store_flaw};
+ghost use Rattle.blocks.specs.Means.{id_width, region_of, snapshot_of, flaw_in, entry_as};
+ghost use Rattle.refs.specs.Answer.{block_of};
+ghost use Rattle.refs.specs.Search.{clashes};
+ghost use Rattle.refs.specs.Whole.{entry_within, indexed};
+
+use blocks::block::{BLOCK_SIZE, Entry, Region, block_name, sound_entry_at};
+use blocks::fitness::{Unfit, fitness};
+use blocks::snapshot::Snapshot;
+use names::bytes::Joined;
+use names::find::Base;
+use std::cmp::Ordering;
+
+// The entry of a block. Its name and content are no longer than a block's, and its ids are whole.
+#[derive(Clone, Copy)]
+pub(crate) struct BlockEntry<'a> {
+    pub(crate) entry: Entry<'a>,
+    ghost within: { entry_within (entry_as entry) ≡ true },
+}
+
+// A region none of whose blocks is damaged or an error, and whose names rise.
+#[derive(Clone, Copy)]
+pub(crate) struct FitRegion<'a> {
+    pub(crate) region: Region,
+    pub(crate) blocks: &'a [u8],
+    ghost flawless: { first_flaw (region_of region) (entries id_width (region_of region) blocks.now) ≡ None },
+}
+
+impl<'a> FitRegion<'a> {
+    // The number of the block that bears the name: by halves, since names rise.
+    // Kept: the new form is no plainer: the library's search by halves wants a slice of elements, and blocks are parts of one text.
+    fn position(self, name: Joined) -> Option<usize>
+        ensures { indexed result (entries id_width (region_of self.entry.region) self.entry.blocks.now) ≡ block_of (path name.entry) (entries id_width (region_of self.entry.region) self.entry.blocks.now) }
+    {
+        let mut lo: usize = 0;
+        let mut hi: usize = self.blocks.len() / BLOCK_SIZE;
+        while lo < hi {
+            let mid = lo + (hi - lo) / 2;
+            match name.compare(block_name(self.blocks, mid)) {
+                Ordering::Less => lo = mid + 1,
+                Ordering::Equal => return Some(mid),
+                Ordering::Greater => hi = mid,
+            }
+        }
+        None
+    }
+
+    // The entry that bears the name.
+    pub(crate) fn entry_of(self, name: Joined) -> Option<BlockEntry<'a>>
+        ensures { option_map (λ b. entry_as b.entry) result ≡ block_of (path name.entry) (entries id_width (region_of self.entry.region) self.entry.blocks.now) }
+    {
+        let k = self.position(name)?;
+        let entry = sound_entry_at(self.blocks, k)?;
+        Some(BlockEntry { entry })
+    }
+
+    // Whether a file of the region is a proper directory of the name.
+    pub(crate) fn has_clash(self, name: Joined) -> bool
+        ensures { result ≡ clashes (path name.entry) (entries id_width (region_of self.entry.region) self.entry.blocks.now) }
+    {
+        for k in 0..self.blocks.len() / BLOCK_SIZE {
+            if name.directory(block_name(self.blocks, k)) {
+                return true;
+            }
+        }
+        false
+    }
+}
+
+// A snapshot whose regions are such.
+#[derive(Clone, Copy)]
+pub(crate) struct FitSnapshot<'a> {
+    pub(crate) snapshot: Snapshot<'a>,
+    ghost flawless: { store_flaw (store id_width (snapshot_of snapshot)) ≡ None },
+}
+
+impl<'a> FitSnapshot<'a> {
+    // Rows 6 to 8.
+    pub(crate) fn new(snapshot: Snapshot<'a>) -> Result<FitSnapshot<'a>, Unfit>
+        ensures fit { IfOk result (λ f. f.snapshot ≡ snapshot.entry) }
+        ensures unfit { IfErr result (λ u. store_flaw (store id_width (snapshot_of snapshot.entry)) ≡ Some (flaw_in u)) }
+    {
+        fitness(snapshot)?;
+        Ok(FitSnapshot { snapshot })
+    }
+
+    // The loose region of a base.
+    pub(crate) fn loose(self, base: Base) -> FitRegion<'a>
+        ensures { entries id_width (region_of result.region) result.blocks.now ≡ region_at (base_of base) (store id_width (snapshot_of self.entry.snapshot)) }
+    {
+        match base {
+            Base::Own => self.own(),
+            Base::Shared => self.shared(),
+        }
+    }
+
+    fn own(self) -> FitRegion<'a>
+        ensures { entries id_width (region_of result.region) result.blocks.now ≡ region_at own (store id_width (snapshot_of self.entry.snapshot)) }
+    {
+        FitRegion {
+            region: Region::Worktree,
+            blocks: self.snapshot.worktree,
+        }
+    }
+
+    // Without a common region the worktree's plays its part.
+    fn shared(self) -> FitRegion<'a>
+        ensures { entries id_width (region_of result.region) result.blocks.now ≡ region_at shared (store id_width (snapshot_of self.entry.snapshot)) }
+    {
+        let Some(blocks) = self.snapshot.common else {
+            return self.own();
+        };
+        FitRegion {
+            region: Region::Common,
+            blocks,
+        }
+    }
+
+    pub(crate) fn packed(self) -> FitRegion<'a>
+        ensures { entries id_width (region_of result.region) result.blocks.now ≡ (store id_width (snapshot_of self.entry.snapshot)).packed }
+    {
+        FitRegion {
+            region: Region::Packed,
+            blocks: self.snapshot.packed,
+        }
+    }
+}

@@ -1,6 +1,0 @@
--- Each turn goes past a byte of what was read.
-use Rattle.std.proofs.Common.{length, ◌-◌}
-use Rattle.replay.proofs.feed.Given as goal
-
-abbrev pub decreases-loop-i : goal.decreases-loop-i
-decreases-loop-i g l = length l.input - l.i
