@@ -1,4 +1,4 @@
-// Links the archive that `tools/archive` writes, and makes the twin: the sources of capi and of the crates below it
+// Links the archive that `tools/archive` writes, and makes the twin: the sources of capi_c and of the crates below it
 // without their contracts, as Rust.
 use std::collections::BTreeMap;
 use std::path::{Path, PathBuf};
@@ -16,10 +16,16 @@ fn open_braces(line: &str) -> isize {
     line.chars().map(|c| match c { '{' => 1, '}' => -1, _ => 0 }).sum()
 }
 
+/// What a type derives in the twin: what it derives in Rattle but for `Drop`, which Rust has of itself, and that it can be copied.
+fn derives(line: &str) -> String {
+    let listed = line.trim_start_matches("#[derive(").trim_end_matches(")]");
+    let own = listed.split(", ").filter(|name| !["", "Drop", "Clone", "Copy"].contains(name));
+    format!("#[derive({})]\n", ["Clone", "Copy"].into_iter().chain(own).collect::<Vec<_>>().join(", "))
+}
+
 /// A call of the C boundary, by the first line of its head.
 fn boundary_call(line: &str) -> Option<&str> {
-    let rest = line.strip_prefix("pub extern \"C\" fn ").or_else(|| line.strip_prefix("pub fn "))?;
-    rest.split(['<', '(']).next().filter(|name| name.starts_with("cosvint_"))
+    line.strip_prefix("pub extern \"C\" fn ")?.split(['<', '(']).next()
 }
 
 /// A source file as the body of a Rust module of the crate `name`, which uses the crates `below`.
@@ -27,6 +33,7 @@ fn body(file: &Path, name: &str, below: &[String]) -> String {
     let text = fs::read_to_string(file).unwrap();
     let mut out = format!("use crate::twin::{{{}}};\n", below.join(", "));
     let mut clause = 0;
+    let mut derived = String::new();
     for line in text.lines() {
         let bare = line.trim_start();
         if clause > 0 || is_clause(bare) && !bare.starts_with("ghost use ") {
@@ -34,12 +41,16 @@ fn body(file: &Path, name: &str, below: &[String]) -> String {
             assert!(clause >= 0, "{}: a contract of a form that this cannot take away", file.display());
             continue;
         }
-        if ["ghost use ", "pub mod ", "mod ", "#![", "#[tactic", "#[cycle", "#[derive", "#[unsafe(no_mangle)]", "prove!("].iter().any(|it| bare.starts_with(it)) {
+        if ["ghost use ", "pub mod ", "mod ", "#![", "#[tactic", "#[cycle", "#[unsafe(no_mangle)]", "prove!("].iter().any(|it| bare.starts_with(it)) {
             continue;
         }
-        let item = line.strip_prefix("pub ").unwrap_or(line);
+        if bare.starts_with("#[derive(") {
+            derived = bare.to_string();
+            continue;
+        }
+        let item = line.strip_prefix("pub(crate) ").or(line.strip_prefix("pub ")).unwrap_or(line);
         if item.starts_with("struct ") || item.starts_with("enum ") {
-            out += "#[derive(Clone, Copy)]\n";
+            out += &derives(&std::mem::take(&mut derived));
         }
         if boundary_call(line).is_some() {
             out += "#[inline(never)]\n";
@@ -66,31 +77,27 @@ fn files(folder: &Path) -> Vec<PathBuf> {
     files
 }
 
-/// What other code may call of a file of capi by its name alone, wherever it stands.
-fn exports(file: &Path, module: &str) -> String {
+/// What other code may call by its name alone.
+fn exports(file: &Path) -> String {
     let text = fs::read_to_string(file).unwrap();
-    text.lines().filter_map(boundary_call).map(|name| format!("pub use {module}::{name};\n")).collect()
+    text.lines().filter_map(boundary_call).map(|name| format!("pub use capi_c::{name};\n")).collect()
 }
 
 fn twin(root: &Path) -> String {
     let all = crates(root);
     let mut twin = String::new();
-    for name in all["capi"].iter().map(String::as_str).chain(["capi"]) {
+    for name in all["capi"].iter().map(String::as_str).chain(["capi", "capi_c"]) {
         let folder = root.join("crates").join(name).join("src");
         println!("cargo:rerun-if-changed={}", folder.display());
         let lib = folder.join("lib.rt");
         twin += &format!("pub mod {name} {{\n{}", body(&lib, name, &all[name]));
-        let mut exported = if name == "capi" { exports(&lib, "capi") } else { String::new() };
         for file in files(&folder).iter().filter(|f| !f.ends_with("lib.rt")) {
             let module = file.file_stem().unwrap().to_str().unwrap();
             twin += &format!("pub mod {module} {{\n{}}}\n", body(file, name, &all[name]));
-            if name == "capi" {
-                exported += &exports(file, &format!("capi::{module}"));
-            }
         }
-        twin += &format!("}}\n{exported}");
+        twin += "}\n";
     }
-    twin
+    twin + &exports(&root.join("crates/capi_c/src/lib.rt"))
 }
 
 fn main() {

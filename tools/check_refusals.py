@@ -39,7 +39,7 @@ def main():
     if sorted(page) != list(range(1, len(page) + 1)):
         wrong.append(f"docs/REFUSALS.md: the numbers are {sorted(page)}")
     lines = re.findall(r'^    ∷ bytes "(.*)"$', read("crates/text/specs/Refshow.antt"), re.M)
-    code = numbered(r'(?P<n>\d+) => \{\s*return put\(\s*out,\s*at,\s*b"(?P<text>[^"]*)"', read("crates/text/src/refshow.rt"))
+    code = numbered(r'(?P<n>\d+) => \{\s*b"(?P<text>[^"]*)"', read("crates/text/src/refshow.rt"))
     header = read("include/cosvint.h").split("The numbers that the calls answer")[1].split("/* No refusal")[0]
     constants = {int(n): (name, text) for name, n, text in re.findall(r"#define COSVINT_(\w+) (\d+) +/\* (.*?) \*/", header)}
     rust = read("bindings/rust/src/error.rs")

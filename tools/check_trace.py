@@ -3,7 +3,8 @@
 
 Names stand in backquotes in one of these forms:
   CRATE/specs/FILE.NAME, CRATE/proofs/FILE.NAME   a definition, a field, a constructor or a law
-  CRATE::MODULE::NAME                             a function, a type or a constant of the code
+  CRATE::MODULE::NAME, CRATE::MODULE::TYPE::NAME  a function, a type or a constant of the code; a function of a type, where its `impl` stands
+  CRATE::MODULE::TYPE+TRAIT::NAME                 a function of a trait, TYPE+TRAIT as the prover writes it: U32FromRefusal::from
   CRATE/must-fail/NAME, CRATE/edits/NAME          a wrong program that the check must refuse
 
 Shipped are the archive's exported calls and the programs reflist and refshow. Code that only replay reaches is cited with "replay" behind
@@ -15,7 +16,8 @@ import pathlib, re, sys
 root = pathlib.Path(__file__).resolve().parent.parent
 crates = root / "crates"
 COMPUTING = ("names/Rules", "names/Tried", "blocks/Damage", *(f"claims/{m}" for m in ("Decide", "Examples", "Needed", "Pair", "Surprises", "Table")))
-ITEM = r'^\s*(?:pub(?:\(crate\))? )?(?:extern "C" )?(fn|struct|enum|const) (\w+)'
+ITEM = r'^\s*(?:pub(?:\(crate\))? )?(?:extern "C" )?(fn|struct|enum|const|type) (\w+)'
+IMPL = r"impl(?:<[^>]*>)? (?:([\w:]+)(?:<(.*)>)? for )?(.*?) (?:where .*)?\{"
 
 
 def declares(text, name):
@@ -40,20 +42,32 @@ def missing(cited):
     return "no such form" if re.fullmatch(r"\w+/[\w-]+/[A-Z]\w*\.\S+|\w+/(edits?|must-?fails?)/\w+", cited) else ""
 
 
+def in_words(a_type):
+    """A type as the prover writes it within a name: `&[u8]` as RefSliceU8."""
+    a_type = re.sub(r"'\w+\s*|<>|<'_>", "", a_type).replace("&mut ", "RefMut ").replace("&", "Ref ")
+    a_type = re.sub(r"\[([^\[\];]*);[^\]]*\]", r"Array \1", a_type).replace("[", "Slice ")
+    return "".join(word[:1].upper() + word[1:] for word in re.findall(r"\w+(?!\w*::)", a_type))
+
+
 def items(found={}):
-    """The items of the code, path -> (the names in its text, its module's path)."""
+    """The items of the code, path -> (the names in its text, those of methods behind a dot; its module's path; the first line of the `impl` that it stands in)."""
     if found:
         return found
     for file in sorted(crates.glob("*/src/**/*.rt")):
         crate = file.relative_to(crates).parts[0]
         module = crate if file.stem in ("lib", "main") else f"{crate}::{file.stem}"
-        path = None
+        path, owner, head = None, "", None
         for line in file.read_text().split("\n"):
-            if m := re.match(ITEM, line):
-                path = f"{module}::{m[2]}"
-                found[path] = (set(), module)
+            if m := re.match(IMPL, line):
+                of_trait = in_words(m[3]) + m[1].rpartition("::")[2] + in_words(m[2] or "") if m[1] else None
+                path, owner, head = None, "::" + (of_trait or re.match(r"\w+", m[3])[0]), m
+            elif line == "}":
+                path, owner, head = None, "", None
+            if (m := re.match(ITEM, line)) and not (head and m[1] == "type"):
+                path = f"{module}{owner}::{m[2]}"
+                found[path] = (set(), module, head)
             if path and not re.match(r"\s*(//|#|requires|ensures|ghost|(?:pub )?use )", line):
-                found[path][0].update(re.findall(r"(?:\w+::)*\w+", line.split("//")[0]))
+                found[path][0].update(re.findall(r"(?:\w+::)*\w+|\.\w+(?=\()", line.split("//")[0]))
     return found
 
 
@@ -84,23 +98,38 @@ def imports(module):
     return {name: path.replace("crate::", parts[0] + "::", 1) for name, path in items}
 
 
+def meant(word, module, known={}):
+    """The paths that a name in the text of a module may mean."""
+    if module not in known:
+        known[module] = imports(module)
+    crate = module.split("::")[0]
+    first, _, rest = word.partition("::")
+    known[module].setdefault("crate", crate)
+    path = "::".join([known[module].get(first, first if (crates / first).is_dir() else f"{module}::{first}"), *filter(None, [rest])])
+    return [path, path.rpartition("::")[0], f"{crate}::{word}"]  # itself, or the type of which it is a function or a variant
+
+
 def reached(roots):
-    """The items that the roots go through: named in their text, directly or by others."""
-    code, known, found, todo = items(), {}, set(), list(roots)
+    """The items that the roots go through: named in their text, directly or by others. A function of an `impl` is gone through where the types that
+    its first line names are, and it is called by its name; a trait's, which an operator may call, by the types alone."""
+    code, found, called, todo = items(), set(), set(), list(roots)
     while todo:
-        path = todo.pop()
-        if path in found or path not in code:
-            continue
-        found.add(path)
-        words, module = code[path]
-        used = known.setdefault(module, imports(module))
-        for word in words:
-            first, _, rest = word.partition("::")
-            base = used.get(first, first if first in ("output", "names", "blocks", "refs", "capi", "text", "files") else f"{module}::{first}")
-            base = base.replace("crate", module.split("::")[0], 1) if first == "crate" else base
-            todo += [base, f"{base}::{rest}" if rest else base, f"{module.split('::')[0]}::{word}", word.replace("crate::", module.split("::")[0] + "::")]
-            if rest and base.count("::") == 2:  # an associated function: Type::name of the type's module
-                todo.append(f"{base.rpartition('::')[0]}::{rest.split('::')[0]}")
+        while todo:
+            path = todo.pop()
+            if path in found or path not in code:
+                continue
+            found.add(path)
+            words, module, _ = code[path]
+            for word in words:
+                last = word.replace(".", "::").rpartition("::")[2]
+                if word[0] == "." or word.startswith("Self::"):  # of whatever type: the text does not say it
+                    called.add(last)
+                else:
+                    todo += meant(word, module)
+        for path, (_, module, head) in code.items():
+            if path not in found and head and (head[1] or path.rpartition("::")[2] in called):
+                types = {it for word in re.findall(r"(?:\w+::)*\w+", head[0]) for it in meant(word, module) if it in code}
+                todo += [path] if types <= found else []
     return found
 
 

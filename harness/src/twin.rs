@@ -1,4 +1,4 @@
-//! What build.rs makes of the sources of capi and of the crates below it.
+//! What build.rs makes of the sources of capi_c and of the crates below it.
 #![allow(unused, clippy::all)]
 
 include!(concat!(env!("OUT_DIR"), "/twin.rs"));
