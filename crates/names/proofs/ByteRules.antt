@@ -12,10 +12,11 @@ use Rattle.std.specs.List.{list_any}
 use lib.ListN.{length, take, drop, get_or, drop_of_length-le}
 use lib.Seq.{drop-cons}
 use borrow.Author.Tests.{eqb-true, eqb-false, ne_eqb, leb-true, leb-false, le-ltb, lt-ltb, not-true}
+use Rattle.std.proofs.lemmas.Bool.{false_from_ne_true}
 use Rattle.names.specs.Bytes.{Bytes, bytes, slash, order, same, starts_with, ends_with, contains, every}
 use Rattle.names.specs.WellFormed.{not_empty, no_dot_begins, no_lock_ends, allowed, slashes_right, well_formed}
 use Rattle.names.specs.Promises.{rules_after, fits_after, lock_ends, before, plain, parting, sure, all_sure}
-use Rattle.names.proofs.Tests.{and_left, and_right, false_of, in_range, not_both, or_eq}
+use Rattle.names.proofs.Tests.{and_left, and_right, in_range, not_both, or_eq}
 use Rattle.names.proofs.Parts.{tail_part}
 use Rattle.names.proofs.Prefix.{ended_not, ended_whole, ended_by}
 use Rattle.names.proofs.Orders.{eqb_comm, compare_refl, same_eq, same_nothing}
@@ -146,23 +147,23 @@ allowed_is b = rw (← listed_is b (127 ∷ 92 ∷ bytes " ~^:?*["), not_or) (ap
     go false h = rw (lt-ltb b 32 (leb-false 32 b h))
 
 same_other : (a b : ℕ) (s q : Bytes) → (b ≡ a → ⊥) → same (b ∷ s) (a ∷ q) ≡ false
-same_other a b s q h = false_of (same (b ∷ s) (a ∷ q)) (λ e. let k = same_eq (b ∷ s) (a ∷ q) e in h (cc))
+same_other a b s q h = false_from_ne_true (same (b ∷ s) (a ∷ q)) (λ e. let k = same_eq (b ∷ s) (a ∷ q) e in h (cc))
 
-same_one : (a : ℕ) (s : Bytes) → same (a ∷ s) (a ∷ []) ≡ eqb (length (a ∷ s)) 1
+same_one : (a : ℕ) (s : Bytes) → same (a ∷ s) (a ∷ []) ≡ eqb (length s) 0
 unfolding order
-same_one a s = rw (compare_refl a, same_nothing s, compare.suc-suc (length s) 0)
+same_one a s = rw (compare_refl a, same_nothing s)
 
 reorder : (a b c d e : Bool) → (a && not b && not c && d && e) ≡ (a && d && e && not (b || c))
 reorder false b c d e = refl
 reorder true b c d e = rw (not_or b c, and_assoc (not b && not c) d e, and_comm (not b && not c) (d && e))
 
 module _ (p : ℕ) where
-  dot_is : (s : Bytes) → fits_after p (46 ∷ s) ≡ (not (eqb p slash) && not (eqb p 46) && not (eqb (length (46 ∷ s)) 1) && not (lock_ends (46 ∷ s)))
+  pub dot_is : (s : Bytes) → fits_after p (46 ∷ s) ≡ (not (eqb p slash) && not (eqb p 46) && not (eqb (length s) 0) && not (lock_ends (46 ∷ s)))
   unfolding fits_after starts_with contains
   dot_is s = simp (eqb_comm p slash, eqb_comm p 46, ← same_one 46 s, same_other slash 46 s [] (λ e. omega arith), and-false, and-true)
       (reorder (not (eqb slash p)) (same (46 ∷ s) (bytes ".lock")) (starts_with (bytes ".lock/") (46 ∷ s)) (not (eqb 46 p)) (not (same (46 ∷ s) (bytes "."))))
 
-  slash_is : (s : Bytes) → fits_after p (slash ∷ s) ≡ (not (eqb p slash) && not (eqb (length (slash ∷ s)) 1))
+  pub slash_is : (s : Bytes) → fits_after p (slash ∷ s) ≡ (not (eqb p slash) && not (eqb (length s) 0))
   unfolding fits_after starts_with contains
   slash_is s = simp (eqb_comm p slash, ← same_one slash s, same_other 46 slash s [] (λ e. omega arith), same_other 46 slash s (bytes "lock") (λ e. omega arith), and-false, and-true)
       (and_comm (not (same (slash ∷ s) (bytes "/"))) (not (eqb slash p)))
@@ -241,11 +242,8 @@ first_cons [] b l h = absurd (not-suc-le-zero l)
 first_cons (a ∷ t) b l h = rw h refl
 
 module _ (p : ℕ) (t : Bytes) (l : 0 < length t) where
-  pub dot_at : get_or t 0 0 ≡ 46 → fits_after p t ≡ (not (eqb p slash) && not (eqb p 46) && not (eqb (length t) 1) && not (lock_ends t))
-  dot_at h = subst (λ (u : Bytes). fits_after p u ≡ (not (eqb p slash) && not (eqb p 46) && not (eqb (length u) 1) && not (lock_ends u))) (sym (first_cons t 46 l h)) (dot_is p (drop 1 t))
-
-  pub slash_at : get_or t 0 0 ≡ slash → fits_after p t ≡ (not (eqb p slash) && not (eqb (length t) 1))
-  slash_at h = subst (λ (u : Bytes). fits_after p u ≡ (not (eqb p slash) && not (eqb (length u) 1))) (sym (first_cons t slash l h)) (slash_is p (drop 1 t))
+  pub parting_at : (b : ℕ) (after : Bytes) (r : Bool) → r ≡ fits_after p (b ∷ after) → get_or t 0 0 ≡ b → after ≡ drop 1 t → r ≡ fits_after p t
+  parting_at b after r e h f = e ∙ rw (f, ← first_cons t b l h) refl
 
   pub brace_at : get_or t 0 0 ≡ 123 → fits_after p t ≡ not (eqb p 64)
   brace_at h = subst (λ (u : Bytes). fits_after p u ≡ not (eqb p 64)) (sym (first_cons t 123 l h)) (brace_is p (drop 1 t))
@@ -259,14 +257,24 @@ module _ (p : ℕ) (t : Bytes) (l : 0 < length t) where
   pub plain_first : plain (get_or t 0 0) ≡ true → fits_after p t ≡ true
   plain_first h = plain_at (plain_fits (get_or t 0 0) h)
 
+pub none_fits : (p : ℕ) (t : Bytes) → length t < 1 → false ≡ fits_after p t
+unfolding fits_after starts_with
+none_fits p [] h = rw (and-false) refl
+none_fits p (b ∷ t) h = absurd (omega arith)
+
 -- a `.lock` that t begins with, and what stands behind it
-pub lock_is : (t : Bytes) → lock_ends t ≡ (starts_with (bytes ".lock") t && (eqb (length t) 5 || eqb (get_or t 5 0) slash))
-lock_is t = go (starts_with (bytes ".lock") t) refl (eqb (length t) 5) refl
+lock_at : (t : Bytes) → lock_ends t ≡ (starts_with (bytes ".lock") t && (eqb (length t) 5 || eqb (get_or t 5 0) slash))
+lock_at t = go (starts_with (bytes ".lock") t) refl (eqb (length t) 5) refl
   where
     go : (r : Bool) → r ≡ starts_with (bytes ".lock") t → (e : Bool) → eqb (length t) 5 ≡ e → lock_ends t ≡ (r && (e || eqb (get_or t 5 0) slash))
     go true w true e = sym (ended_whole (bytes ".lock") t slash true w refl (eqb-true (length t) 5 e))
     go true w false e = sym (ended_by (bytes ".lock") t slash true w refl (eqb-false (length t) 5 e))
     go false w e h = sym (ended_not (bytes ".lock") t slash false w refl)
+
+-- the same behind a dot
+pub lock_is : (t : Bytes) → lock_ends (46 ∷ t) ≡ (starts_with (bytes "lock") t && (eqb (length t) 4 || eqb (get_or t 4 0) slash))
+unfolding starts_with
+lock_is t = lock_at (46 ∷ t) ∙ rw (compare.suc-suc (length t) 4) refl
 
 -- ---- bytes that surely fit
 
@@ -274,18 +282,18 @@ module _ (p n : ℕ) (s : Bytes) (k : parting p ≡ false) where
   other_than : (a : ℕ) → parting a ≡ true → p ≡ a → ⊥
   other_than a t e = not_both (subst (λ (x : ℕ). parting x ≡ true) (sym e) t) k
 
-  not_last : (b : ℕ) → eqb (length (b ∷ n ∷ s)) 1 ≡ false
-  not_last b = ne_eqb (length (b ∷ n ∷ s)) 1 (λ e. omega arith)
+  not_last : eqb (length (n ∷ s)) 0 ≡ false
+  not_last = ne_eqb (length (n ∷ s)) 0 (λ e. omega arith)
 
   slash_sure : fits_after p (slash ∷ n ∷ s) ≡ true
-  slash_sure = rw (slash_is p (n ∷ s), ne_eqb p slash (other_than slash refl), not_last slash)
+  slash_sure = rw (slash_is p (n ∷ s), ne_eqb p slash (other_than slash refl), not_last)
 
   lock_not : (n ≡ 108 → ⊥) → same (46 ∷ n ∷ s) (bytes ".lock") ≡ false
-  lock_not h = false_of (same (46 ∷ n ∷ s) (bytes ".lock")) (λ e. let j = same_eq (46 ∷ n ∷ s) (bytes ".lock") e in h (cc))
+  lock_not h = false_from_ne_true (same (46 ∷ n ∷ s) (bytes ".lock")) (λ e. let j = same_eq (46 ∷ n ∷ s) (bytes ".lock") e in h (cc))
 
   dot_sure : (n ≡ 108 → ⊥) → fits_after p (46 ∷ n ∷ s) ≡ true
   unfolding starts_with
-  dot_sure h = rw (dot_is p (n ∷ s), ne_eqb p slash (other_than slash refl), ne_eqb p 46 (other_than 46 refl), not_last 46, lock_not h, ne_eqb 108 n (λ e. h (sym e)))
+  dot_sure h = rw (dot_is p (n ∷ s), ne_eqb p slash (other_than slash refl), ne_eqb p 46 (other_than 46 refl), not_last, lock_not h, ne_eqb 108 n (λ e. h (sym e)))
 
   parting_sure : (b : ℕ) → 46 ≤ b → b ≤ 47 → (eqb b slash || not (eqb n 108)) ≡ true → fits_after p (b ∷ n ∷ s) ≡ true
   parting_sure b l h e = go (leb b 46) refl

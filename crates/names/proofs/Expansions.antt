@@ -1,106 +1,119 @@
 -- The expansion of a namespace, component by component.
 use Rattle.std.specs.Prelude.{if◌then◌else◌}
-use mathlib.Core.Path.{◌≡◌, refl, ap, ◌∙◌}
-use Prim.Native.Nat.{ℕ, suc, ◌+◌, ◌*◌, ◌≤◌, ◌<◌}
-use native.Mathlib.Numerals.{add-one}
+use mathlib.Core.Path.{◌≡◌, refl, sym, ap, ◌∙◌}
+use Prim.Native.Nat.{ℕ, suc, ◌+◌, ◌*◌, ◌≤◌}
 use native.Mathlib.Omega.{arith}
 use mathlib.Core.Bool.{Bool, true, false}
-use mathlib.Core.List.{[], ◌∷◌, ◌++◌, append_assoc}
+use mathlib.Core.List.{List, [], ◌∷◌, ◌++◌, append_assoc}
+use mathlib.Core.List.{map, map-append}
+use denote.Ref.{Bor}
+use Rattle.std.specs.List.{slice_split, sum_by}
+use Rattle.std.proofs.lemmas.List.Sums.{sum_by-cons}
+use Rattle.std.specs.Iterator.{Yields}
+use Rattle.std.proofs.lemmas.Iterator.{YieldsList}
+use Rattle.std.proofs.lemmas.Iterator.Consumers.{YieldsList-so_far, YieldsList-turn, YieldsList-end}
 use Rattle.std.specs.Prelude.{Option, None, Some}
-use Rattle.std.specs.Option.{option_map}
 use lib.Dec.{eqb}
-use lib.ListN.{length, take, drop, get_or, length-append, drop_of_length-le}
-use lib.Seq.{drop-cons}
+use lib.ListN.{length, take, drop, length-append}
+use lib.Seq.{take-suc}
+use Rattle.std.proofs.lemmas.List.{take-append-drop}
 use borrow.Author.Tests.{le-leb}
 use Rattle.names.specs.Bytes.{Bytes, bytes, slash}
-use Rattle.names.specs.Category.{first_slash}
 use Rattle.names.specs.Means.{if_fits}
 use Rattle.names.specs.Name.{longest, fits}
 use Rattle.names.specs.Namespace.{expand, expand_rest}
 use Rattle.names.specs.Promises.{width_in}
 use Rattle.names.proofs.Held.{fits_is, longer_not}
 
--- ---- the first component ends at the first slash
+-- ---- the components, each between refs/namespaces/ and a slash
 
-abbrev rest_by : Bytes → Option ℕ → Bytes
-rest_by s None = s ++ bytes "/"
-rest_by s (Some i) = take i s ++ (bytes "/" ++ expand (drop (i + 1) s))
+abbrev pub is_slash : ℕ → Bool
+is_slash b = eqb b slash
 
-rest_is : (s : Bytes) → expand_rest s ≡ rest_by s (first_slash s)
-unfolding first_slash expand expand_rest
-rest_is [] = refl
-rest_is (b ∷ s) = go (eqb b slash) (first_slash s) (rest_is s)
+abbrev pub components : Bytes → List Bytes
+components s = slice_split is_slash s
+
+abbrev pub with_part : Bytes → Bytes → Bytes
+with_part w p = w ++ (bytes "refs/namespaces/" ++ (p ++ bytes "/"))
+
+unfoldable pub joined : List Bytes → Bytes
+joined [] = []
+joined (p ∷ l) = bytes "refs/namespaces/" ++ (p ++ (bytes "/" ++ joined l))
+
+record Cut (s : Bytes) : Type 0 where
+  first : Bytes
+  more : List Bytes
+  parts : components s ≡ first ∷ more
+  rest : expand_rest s ≡ first ++ (bytes "/" ++ joined more)
+
+cut_at : (s : Bytes) → Cut s
+unfolding joined expand_rest
+cut_at [] = record { first = []; more = []; parts = refl; rest = refl }
+cut_at (b ∷ s) = go (eqb b slash) refl (cut_at s)
   where
-    go : (t : Bool) (o : Option ℕ) → expand_rest s ≡ rest_by s o
-        → (if t then bytes "/refs/namespaces/" ++ expand_rest s else b ∷ expand_rest s) ≡ rest_by (b ∷ s) (if t then Some 0 else option_map (λ i. suc i) o)
-    go true o ih = refl
-    go false None ih = ap (λ (l : Bytes). b ∷ l) ih
-    go false (Some i) ih = let k : suc i + 1 ≡ suc (i + 1) = omega arith in rw k (ap (λ (l : Bytes). b ∷ l) ih)
+    go : (f : Bool) → eqb b slash ≡ f → Cut s → Cut (b ∷ s)
+    go true e k = record { first = []; more = k.first ∷ k.more; parts = rw (e, k.parts); rest = rw (e, k.rest) }
+    go false e k = record { first = b ∷ k.first; more = k.more; parts = rw (e, k.parts); rest = rw (e, k.rest) }
 
--- a name holds x, and what is left of the namespace is s: with the first component put behind x, what is left is behind its slash
-module _ (x s : Bytes) where
-  abbrev pub with_part : Bytes → Bytes
-  with_part p = x ++ (bytes "refs/namespaces/" ++ (p ++ bytes "/"))
+pub expand_is : (s : Bytes) → expand s ≡ joined (components s)
+unfolding expand joined
+expand_is s = let k = cut_at s in rw (k.rest, k.parts)
 
-  pub part_put : (i : ℕ) → first_slash s ≡ Some i → x ++ expand s ≡ with_part (take i s) ++ expand (drop (i + 1) s)
-  unfolding expand
-  part_put i e = rw (rest_is s, e) (simp append_assoc)
+joined_append : (l m : List Bytes) → joined (l ++ m) ≡ joined l ++ joined m
+unfolding joined
+joined_append [] m = refl
+joined_append (p ∷ l) m = rw (joined_append l m) (simp append_assoc)
 
-  -- the last one
-  pub last_put : first_slash s ≡ None → x ++ expand s ≡ with_part s
-  unfolding expand
-  last_put e = rw (rest_is s, e)
+pub joined_more : (l : List Bytes) (p : Bytes) → joined (l ++ (p ∷ [])) ≡ with_part (joined l) p
+unfolding joined
+joined_more l p = joined_append l (p ∷ [])
 
--- what the name then holds
-pub part_held : (x s t b w : Bytes) (i : ℕ) → first_slash s ≡ Some i → w ≡ x ++ expand s → t ≡ take i s → Some b ≡ if_fits (with_part x s t) → w ≡ b ++ expand (drop (i + 1) s)
-part_held x s t b w i e h p f = rw (fits_is (with_part x s t) b f, p) (h ∙ part_put x s i e)
+-- one component more
+pub parts_next : {w b : Bytes} (xs : List (Bor Bytes)) (p : Bor Bytes) → w ≡ joined (map (λ p. p.now) xs) → Some b ≡ if_fits (with_part w p.now) → b ≡ joined (map (λ p. p.now) (xs ++ (p ∷ [])))
+parts_next {w} {b} xs p k f = rw (map-append (λ p. p.now) xs (p ∷ []), joined_more, ← k) (fits_is (with_part w p.now) b f)
 
-pub last_held : (x s w : Bytes) (o : Option Bytes) → first_slash s ≡ None → w ≡ x ++ expand s → o ≡ if_fits (with_part x s s) → o ≡ if_fits w
-last_held x s w o e h f = rw (h ∙ last_put x s e) f
+-- a `for` over the components that has yielded xs, which the bytes w hold joined
+module _ {S : Type 0} {steps : S → Option (Bor Bytes) → S → Type 0} {s₀ : S} (xs : List (Bor Bytes)) (t : S) (y : Yields steps s₀ xs t) (s : Bytes) (w : Bytes)
+    (k : w ≡ joined (map (λ p. p.now) xs)) (r : Option (Bor Bytes)) (u : S) (next : steps t r u) (e : YieldsList steps (λ p. p.now) s₀ (components s)) where
+  -- what does not fit with the next component fits not at all
+  pub part_refused : (p : Bor Bytes) → r ≡ Some p → None ≡ if_fits (with_part w p.now) → None ≡ if_fits (expand s)
+  part_refused p is f =
+      let all = components s in
+      let n = length xs in
+      let turn = YieldsList-turn e xs t y r u p is next in
+      let front : take (suc n) all ≡ map (λ p. p.now) xs ++ (p.now ∷ []) = rw (take-suc all n p.now turn.0, ← turn.1, ← YieldsList-so_far e xs t y) in
+      let parts : all ≡ (map (λ p. p.now) xs ++ (p.now ∷ [])) ++ drop (suc n) all = rw (← front) (sym (take-append-drop (suc n) all)) in
+      rw (expand_is s, parts, joined_append, joined_more, ← k) (longer_not (with_part w p.now) (with_part w p.now ++ joined (drop (suc n) all)) (simp length-append (omega arith)) f)
 
--- what does not fit with a component fits not at all
-pub part_refused : (x s t w : Bytes) (i : ℕ) → first_slash s ≡ Some i → w ≡ x ++ expand s → t ≡ take i s → None ≡ if_fits (with_part x s t) → None ≡ if_fits w
-part_refused x s t w i e h p f =
-    let k = h ∙ rw (← p) at (part_put x s i e) in
-    rw k (longer_not (with_part x s t) (with_part x s t ++ expand (drop (i + 1) s)) (simp length-append (omega arith)) f)
+  -- behind the last one
+  pub parts_whole : r ≡ None → w ≡ expand s
+  parts_whole is = k ∙ ap joined (YieldsList-end e xs t y r u is next).0 ∙ sym (expand_is s)
 
 -- ---- the length of the expansion, byte by byte
 
-module _ (s : Bytes) where
-  pub length_start : length (expand s) ≡ 16 + length (expand_rest s)
-  unfolding expand
-  length_start = length-append (bytes "refs/namespaces/") (expand_rest s)
-
-  module _ (i : ℕ) where
-    pub length_at : i < length s → length (expand_rest (drop i s)) ≡ width_in (get_or s i 0) + length (expand_rest (drop (i + 1) s))
-    unfolding expand_rest
-    length_at h = rw (add-one, drop-cons s i 0 h) (go (eqb (get_or s i 0) slash))
-      where
-        go : (f : Bool) → length (if f then bytes "/refs/namespaces/" ++ expand_rest (drop (suc i) s) else get_or s i 0 ∷ expand_rest (drop (suc i) s)) ≡ (if f then length (bytes "/refs/namespaces/") else 1) + length (expand_rest (drop (suc i) s))
-        go true = length-append (bytes "/refs/namespaces/") (expand_rest (drop (suc i) s))
-        go false = omega arith
-
-    pub length_end : length s ≤ i → length (expand_rest (drop i s)) ≡ 1
-    unfolding expand_rest
-    length_end h = rw (drop_of_length-le s h)
-
-pub width_most : (b w : ℕ) → w ≡ width_in b → w ≤ 17
-width_most b w e = rw e (go (eqb b slash))
-  where
-    go : (f : Bool) → (if f then length (bytes "/refs/namespaces/") else 1) ≤ 17
-    go true = omega arith
-    go false = omega arith
-
--- ---- a short namespace's expansion fits, as no byte becomes more than 17
-
-rest_most : (s : Bytes) → length (expand_rest s) ≤ 17 * length s + 1
+rest_widths : (s : Bytes) → length (expand_rest s) ≡ 1 + sum_by width_in s
 unfolding expand_rest
-rest_most [] = omega arith
-rest_most (b ∷ s) = go (eqb b slash) (rest_most s)
+rest_widths [] = refl
+rest_widths (b ∷ s) = rw (sum_by-cons width_in b s) (go (eqb b slash) (rest_widths s))
   where
-    go : (f : Bool) → length (expand_rest s) ≤ 17 * length s + 1 → length (if f then bytes "/refs/namespaces/" ++ expand_rest s else b ∷ expand_rest s) ≤ 17 * suc (length s) + 1
+    go : (f : Bool) → length (expand_rest s) ≡ 1 + sum_by width_in s
+        → length (if f then bytes "/refs/namespaces/" ++ expand_rest s else b ∷ expand_rest s) ≡ 1 + ((if f then length (bytes "/refs/namespaces/") else 1) + sum_by width_in s)
     go true h = omega (arith, h, length-append (bytes "/refs/namespaces/") (expand_rest s))
     go false h = omega (arith, h)
 
+pub widths : (s : Bytes) → 17 + sum_by width_in s ≡ length (expand s)
+unfolding expand
+widths s = omega (arith, length-append (bytes "refs/namespaces/") (expand_rest s), rest_widths s)
+
+-- no byte becomes more than 17
+pub widths_most : (s : Bytes) → sum_by width_in s ≤ 17 * length s
+widths_most [] = omega arith
+widths_most (b ∷ s) = rw (sum_by-cons width_in b s) (go (eqb b slash) (widths_most s))
+  where
+    go : (f : Bool) → sum_by width_in s ≤ 17 * length s → (if f then length (bytes "/refs/namespaces/") else 1) + sum_by width_in s ≤ 17 * suc (length s)
+    go true h = omega (arith, h)
+    go false h = omega (arith, h)
+
+-- so a short namespace's expansion fits
 pub short_fits : (s : Bytes) → length s ≤ 13 → fits (expand s) ≡ true
-short_fits s h = le-leb (length (expand s)) longest (omega (arith, h, length_start s, rest_most s))
+short_fits s h = le-leb (length (expand s)) longest (omega (arith, h, widths s, widths_most s))

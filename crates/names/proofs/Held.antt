@@ -11,7 +11,7 @@ use Rattle.std.specs.Result.{result_ok}
 use lib.ListN.{length, take, length-append, length-take}
 use lib.Seq.{take_all, take-append_seam}
 use Rattle.std.proofs.Math.Nat.{min_comm}
-use borrow.Rule.Slice.PartMut.{put_mid, post_of}
+use borrow.Rule.Slice.PartMut.{put_mid}
 use Rattle.std.proofs.lemmas.Slice.{take-put_mid}
 use borrow.Author.Tests.{leb-true, leb-false, le-leb, lt-leb}
 use Rattle.names.specs.Bytes.{Bytes, bytes}
@@ -73,33 +73,27 @@ held_cut b len k e = go (leb len (length b)) refl
     go true f = let h = leb-true len (length b) f in let m : k ≡ len = omega arith in rw m
     go false f = let h = leb-false len (length b) f in rw (take_all k b (omega arith), take_all len b (omega arith))
 
--- the bytes that a name holds are no more than it has room for
-pub held_length : (b : Bytes) (len : ℕ) → length (held b len) ≤ length b
-unfolding held
-held_length b len = simp length-take (omega arith)
-
-module _ (b : Bytes) (len at : ℕ) (h : length b ≡ longest) (k : at ≡ min len longest) where
-  at_length : length (held b len) ≡ at
+module _ (b : Bytes) (len : ℕ) (h : length b ≡ longest) (k : len ≤ longest) where
+  held_long : length (held b len) ≡ len
   unfolding held
-  at_length = rw (length-take, h) (omega arith)
+  held_long = rw (length-take, h) (omega arith)
 
   -- what finds no room
-  pub push_refused : (s : Bytes) → longest - at < length s → None ≡ if_fits (held b len ++ s)
-  push_refused s m = rw (lt-leb (length (held b len ++ s)) longest (simp (length-append, at_length) (omega arith)))
+  pub push_refused : (s : Bytes) → longest - len < length s → None ≡ if_fits (held b len ++ s)
+  push_refused s m = rw (lt-leb (length (held b len ++ s)) longest (simp (length-append, held_long) (omega arith)))
 
   -- what finds room stands behind what was there
-  pub push_put : (s t : Bytes) (n : ℕ) → t ≡ s → n ≡ at + length s → length s ≤ longest - at → Some (held (put_mid at (n - at) b t) n) ≡ if_fits (held b len ++ s)
+  pub push_put : (s t : Bytes) (n : ℕ) → t ≡ s → n ≡ len + length s → length s ≤ longest - len → Some (held (put_mid len (n - len) b t) n) ≡ if_fits (held b len ++ s)
   unfolding held
   push_put s t n e m l =
-      let c : take at b ≡ take len b = held_cut b len at (rw h k) in
-      rw (e, le-leb (length (take len b ++ s)) longest (simp (length-append, at_length) (omega arith)), take-put_mid {X = ℕ} at (n - at) b s n m (omega arith), c)
+      rw (e, le-leb (length (take len b ++ s)) longest (simp (length-append, held_long) (omega arith)), take-put_mid {X = ℕ} len (n - len) b s n m (omega arith))
 
 front_there : (t u : Bytes) (k : ℕ) → length t ≡ k → take k (t ++ u) ≡ t
 front_there t u k e = rw (← e, take-append_seam)
 
--- as much as a name holds
-pub fill_held : (b s t : Bytes) (k : ℕ) → length b ≡ longest → k ≡ min (length s) longest → t ≡ take k s → take k (t ++ post_of 0 k b) ≡ take longest s
-fill_held b s t k h e f = rw (f, front_there (take k s) (post_of 0 k b) k (simp length-take (omega arith))) (rw (held_is s longest) at (held_cut s longest k (rw min_comm at e)))
+-- as much as a name holds, whatever stands behind it
+pub fill_held : (s t u : Bytes) (k : ℕ) → k ≡ min (length s) longest → t ≡ take k s → take k (t ++ u) ≡ take longest s
+fill_held s t u k e f = rw (f, front_there (take k s) u k (simp length-take (omega arith))) (rw (held_is s longest) at (held_cut s longest k (rw min_comm at e)))
 
 -- what `ok` leaves of a push
 module _ {A : Type 0} (n : Name) where
@@ -110,6 +104,11 @@ module _ {A : Type 0} (n : Name) where
   pub pushed_not : (r : Result A TooLong) → result_ok r ≡ None → pushed n r ≡ None
   pushed_not (Ok x) e = none≢Some (sym e)
   pushed_not (Err x) e = refl
+
+-- a name holds what fits
+pub content_fits : (n : Name) (s : Bytes) → content n ≡ s → Some (content n) ≡ if_fits s
+unfolding held
+content_fits n s e = rw (← e, le-leb (length (take n.len n.bytes)) longest (simp length-take (omega (arith, n.short))))
 
 -- what fits is held whole
 pub cut_fits : (s t : Bytes) → fits s ≡ true → t ≡ take longest s → t ≡ s

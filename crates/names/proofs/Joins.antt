@@ -8,9 +8,9 @@ use native.Mathlib.Omega.{arith}
 use lib.Dec.{compare_is_eq, eqb}
 use lib.ListN.{length, take, drop, length-append}
 use lib.Seq.{drop-append-le}
+use Rattle.std.proofs.lemmas.Bool.{false_from_ne_true}
 use Rattle.names.specs.Bytes.{Bytes, bytes, first_told, order, same, starts_with}
 use Rattle.names.specs.Name.{directory}
-use Rattle.names.proofs.Tests.{false_of}
 use Rattle.names.proofs.Orders.{eqb_comm, order_append, same_eq}
 use Rattle.names.proofs.Prefix.{starts_append, starts_split}
 
@@ -60,4 +60,4 @@ pub same_behind : (s e n : Bytes) → starts_with e s ≡ true → same s (e ++ 
 same_behind s e n h = ap (λ (x : Bytes). same x (e ++ n)) (sym (starts_split e s h)) ∙ ap compare_is_eq (order_append e (drop (length e) s) n)
 
 pub same_beside : (s e n : Bytes) → starts_with e s ≡ false → same s (e ++ n) ≡ false
-same_beside s e n h = false_of (same s (e ++ n)) (λ k. true≢false (sym (starts_append e n) ∙ ap (λ (x : Bytes). starts_with e x) (sym (same_eq s (e ++ n) k)) ∙ h))
+same_beside s e n h = false_from_ne_true (same s (e ++ n)) (λ k. true≢false (sym (starts_append e n) ∙ ap (λ (x : Bytes). starts_with e x) (sym (same_eq s (e ++ n) k)) ∙ h))

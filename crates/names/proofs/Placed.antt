@@ -9,12 +9,13 @@ use Rattle.std.specs.Option.{option_map}
 use mathlib.Core.Logic.{◌⊎◌, inl, inr}
 use lib.Dec.{eqb}
 use lib.ListN.{drop}
+use Rattle.std.proofs.lemmas.Bool.{false_from_ne_true}
 use Rattle.names.specs.Bytes.{Bytes, bytes, starts_with, every}
 use Rattle.names.specs.Name.{is_pseudo, under_refs}
 use Rattle.names.specs.Category.{Category, Tag, LocalBranch, RemoteBranch, Note, Bisect, PseudoRef, MainPseudoRef, MainRef, LinkedRef, LinkedPseudoRef, WorktreePrivate, Rewritten, Class, first_slash, classify_below, classify_linked, classify, named, category_and_short_name, category_in, off_in, category, short_name, private_category, is_private}
 use Rattle.names.specs.Namespace.{expand}
 use Rattle.names.specs.Route.{own, shared, Place, at, route_as, route, packed_as, packed_name}
-use Rattle.names.proofs.Tests.{if_case, false_of, not_both, and_left}
+use Rattle.names.proofs.Tests.{if_case, not_both, and_left}
 use Rattle.names.proofs.Prefix.{other_start}
 
 -- the name begins with the byte r: it is not below main-worktree/ or worktrees/
@@ -90,7 +91,7 @@ pub data Placed (c : Bytes) : Place → Option Bytes → Type 0 where
   apart : {p : Bytes} → begins_r c ≡ false → under_refs p ≡ false → Placed c (at shared p) None
 
 not_r : (c : Bytes) → begins_r c ≡ false → under_refs c ≡ false
-not_r c h = false_of (under_refs c) (λ e. not_both (refs_begins_r c e) h)
+not_r c h = false_from_ne_true (under_refs c) (λ e. not_both (refs_begins_r c e) h)
 
 placed_linked : (c sn : Bytes) → begins_r c ≡ false → (b : Bool) → is_private sn ≡ b → Placed c (at shared (if b then c else sn)) (Some sn)
 placed_linked c sn h true e = apart_packed h e

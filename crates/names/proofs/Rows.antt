@@ -1,19 +1,28 @@
 -- Rows 3 to 5 of the table: what is left of them after each check.
-use mathlib.Core.Path.{◌≡◌, refl, sym, ◌∙◌}
+use mathlib.Core.Path.{◌≡◌, refl, sym}
 use Prim.Native.Nat.{◌≤◌}
 use mathlib.Core.Bool.{Bool, true, false, ◌&&◌}
 use Rattle.std.specs.Prelude.{Option, None, Some}
 use lib.ListN.{length, take}
 use borrow.Author.Tests.{leb-true}
 use Rattle.names.specs.Bytes.{Bytes}
-use Rattle.names.specs.Check.{unless, ◌or_else◌, Checked, gives, checked}
+use Rattle.names.specs.Check.{unless, ◌or_else◌, gives, checked}
 use Rattle.names.specs.Name.{longest, fits}
 use Rattle.names.specs.Category.{Category, full_of, to_full_name}
 use Rattle.names.specs.Namespace.{expand, expansion, passes_if_given, names_check, expanded}
 use Rattle.names.specs.WellFormed.{well_formed, complete}
 use Rattle.names.specs.Means.{full_check, full_checked}
-use Rattle.names.proofs.Tests.{and_right, none≢Some}
+use Rattle.names.proofs.Tests.{none≢Some}
 use Rattle.names.proofs.Held.{cut_fits}
+
+-- the rows, in their order
+pub rows : (name namespace : Option Bytes)
+    → names_check name namespace
+    ≡ (unless 3 (passes_if_given fits name && passes_if_given fits namespace)
+    or_else unless 4 (passes_if_given well_formed name && passes_if_given well_formed namespace)
+    or_else unless 5 (fits (expansion namespace)))
+unfolding names_check
+rows name namespace = refl
 
 -- nothing is asked where nothing is given
 pub names_none : names_check None None ≡ None
@@ -27,29 +36,6 @@ expanded_is s = refl
 pub full_checked_is : (s : Bytes) → full_checked s ≡ checked (full_check s) s
 unfolding full_checked
 full_checked_is s = refl
-
-module _ (x : Bytes) (o : Option Bytes) where
-  pub names_long : (fits x && passes_if_given fits o) ≡ false → names_check (Some x) o ≡ Some 3
-  unfolding names_check
-  names_long h = rw h
-
-  module _ (h : (fits x && passes_if_given fits o) ≡ true) where
-    pub names_malformed : (well_formed x && passes_if_given well_formed o) ≡ false → names_check (Some x) o ≡ Some 4
-    unfolding names_check
-    names_malformed k = rw (h, k)
-
-    pub names_right : (well_formed x && passes_if_given well_formed o) ≡ true → names_check (Some x) o ≡ unless 5 (fits (expansion o))
-    unfolding names_check
-    names_right k = rw (h, k)
-
--- a namespace that fits and is well formed is refused only for its expansion
-expanded_right : (s : Bytes) → fits s ≡ true → well_formed s ≡ true → expanded s ≡ checked (unless 5 (fits (expand s))) (expand s)
-unfolding expanded names_check
-expanded_right s h k = rw (h, k)
-
-module _ (x s : Bytes) (h : (fits x && fits s) ≡ true) (k : (well_formed x && well_formed s) ≡ true) where
-  pub names_expanded : (c : Checked Bytes) → c ≡ expanded s → c ≡ checked (names_check (Some x) (Some s)) (expand s)
-  names_expanded c e = e ∙ expanded_right s (and_right (fits x) _ h) (and_right (well_formed x) _ k) ∙ sym (rw (names_right x (Some s) h k))
 
 -- a namespace that passes has an expansion that is no longer than a name
 pub expansion_fits : (namespace : Option Bytes) → names_check None namespace ≡ None → length (expansion namespace) ≤ longest

@@ -7,7 +7,7 @@ use native.Mathlib.Omega.{arith}
 use lib.Dec.{compare_is_eq, eqb, leb}
 use lib.ListN.{length, take, drop}
 use denote.Ref.{Bor}
-use borrow.Author.Tests.{leb-true, leb-false, lt-ltb, le-ltb, ne_eqb}
+use borrow.Author.Tests.{leb-true, leb-false, lt-ltb, le-ltb, ne_eqb, eq-eqb}
 use Rattle.std.specs.Prelude.{Option, None, Some, MatchOption}
 use Rattle.std.specs.Option.{unwrap_or}
 use Rattle.std.specs.Cmp.Lexicographic.{pointwise, slice_cmp}
@@ -16,7 +16,6 @@ use Rattle.std.specs.declared.cmp.Ordering as answer
 use Rattle.std.specs.declared.cmp.Ordering.TheVariants.{Less, Equal, Greater}
 use Rattle.names.specs.Bytes.{Bytes, first_told, order, same, starts_with, ends_with, strip}
 use Rattle.names.specs.Means.{ordering}
-use Rattle.names.proofs.Tests.{eqb_same}
 use Rattle.names.proofs.Orders.{eqb_comm, lt→<, compare_eq, compare_flip, flip, same_comm, same_length}
 use Rattle.names.proofs.Prefix.{ends_at, ends_shorter}
 
@@ -87,7 +86,7 @@ number_is x y = go (compare x y) refl
   where
     go : (o : Ordering) → compare x y ≡ o → ordering (nat_cmp x y) ≡ o
     go Ordering.lt e = let l : x < y = lt→< x y e in rw (lt-ltb x y l)
-    go Ordering.eq e = rw (compare_eq x y e, le-ltb y y (omega arith), eqb_same y)
+    go Ordering.eq e = rw (compare_eq x y e, le-ltb y y (omega arith), eq-eqb y y refl)
     go Ordering.gt e = let l : y < x = lt→< y x (compare_flip x y ∙ ap flip e) in rw (le-ltb x y (omega arith), ne_eqb x y (λ e. omega arith))
 
 -- `a.cmp(b)`

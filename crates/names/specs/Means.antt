@@ -14,7 +14,7 @@ use Rattle.std.specs.declared.cmp.Ordering as answer
 use Rattle.std.specs.declared.cmp.Ordering.TheVariants.{Less, Equal, Greater}
 use Rattle.names.specs.declared.bytes.Joined.{Joined}
 use Rattle.names.specs.declared.name.Name.{Name}
-use Rattle.names.specs.declared.name.PartialName.{PartialName}
+use Rattle.names.specs.declared.partial.PartialName.{PartialName}
 use Rattle.names.specs.declared.name.Refusal.{Refusal}
 use Rattle.names.specs.declared.name.Refusal.TheVariants as refusal
 use Rattle.names.specs.declared.name.TooLong.{TooLong}

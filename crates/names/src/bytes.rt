@@ -3,11 +3,12 @@
 ghost use Rattle.std.specs.Prelude.{◌≡◌, ◌&&◌, leb};
 ghost use Rattle.names.specs.Bytes.{order, same, starts_with, ends_with, contains, strip};
 ghost use Rattle.names.specs.Name.{directory};
-ghost use Rattle.names.specs.Means.{ordering, path};
+ghost use Rattle.names.specs.Means.{held, ordering, path};
 
 use std::cmp::Ordering;
 
 // Does s begin with p?
+// Kept: this, compare, equal, ends_with and without are the library's methods with their answers in the definitions' words, so that callers need no law of slices.
 #[tactic(auto, using(crate::proofs::Slices::starts_is))]
 pub fn starts_with(s: &[u8], p: &[u8]) -> bool
     ensures { result ≡ starts_with p.now s.now }
@@ -16,6 +17,7 @@ pub fn starts_with(s: &[u8], p: &[u8]) -> bool
 }
 
 // Whether a byte is one of those from first to last, with no branch.
+// Kept: for `is_plain`, which is slower with ranges (validate.rt).
 pub fn in_range(b: u8, first: u8, last: u8) -> bool
     ensures { result ≡ (leb first b && leb b last) }
 {
@@ -59,6 +61,15 @@ pub fn without<'a>(s: &'a [u8], p: &[u8]) -> &'a [u8]
     ensures { result.now ≡ strip p.now s.now }
 {
     s.strip_prefix(p).unwrap_or(s)
+}
+
+// The first len bytes of a buffer; all of them, where len is more.
+// Kept: no heap: a file is read into a lent buffer, and C's state has its fields at fixed places, so both keep a length beside.
+#[tactic(auto, using(crate::proofs::Held::held_cut))]
+pub fn lend(b: &[u8], len: usize) -> &[u8]
+    ensures { result.now ≡ held b.now len }
+{
+    &b[..len.min(b.len())]
 }
 
 // Does t begin with s and a slash?

@@ -1,6 +1,5 @@
 // Full names and their categories (fullname.rs, name.rs).
-ghost use Rattle.std.specs.Prelude.{◌≡◌, ◌++◌, ℕ, drop};
-ghost use Rattle.std.specs.Prelude.{Some};
+ghost use Rattle.std.specs.Prelude.{◌≡◌, ◌++◌, ℕ, drop, Some};
 ghost use Rattle.std.specs.Option.{option_map};
 ghost use Rattle.names.specs.Bytes.{Bytes, bytes};
 ghost use Rattle.names.specs.Category.{named, first_slash, classify_below, classify_linked, category_and_short_name, private_category, is_private, short_name, behind, full_of, to_full_name};
@@ -68,6 +67,7 @@ fn classify_linked(rest: &[u8]) -> Option<(Category<'_>, &[u8])>
 }
 
 // What stands behind refs/.
+// Kept: no plainer as a table: it has three columns, as four words stay in the short name, and a loop over it.
 fn classify_refs(rest: &[u8]) -> Option<(Category<'_>, &[u8])>
     ensures { class_of result ≡ category_and_short_name (bytes "refs/" ++ rest.now) }
 {
@@ -119,10 +119,7 @@ pub fn category_and_short_name(s: &[u8]) -> Option<(Category<'_>, &[u8])>
 pub fn is_private(s: &[u8]) -> bool
     ensures { result ≡ is_private s.now }
 {
-    match category_and_short_name(s) {
-        Some((category, _)) => category.is_worktree_private(),
-        None => false,
-    }
+    category_and_short_name(s).is_some_and(|(category, _)| category.is_worktree_private())
 }
 
 // The name without what its category takes off.
@@ -130,10 +127,7 @@ pub fn is_private(s: &[u8]) -> bool
 pub fn short_name(s: &[u8]) -> &[u8]
     ensures { result.now ≡ short_name s.now }
 {
-    match category_and_short_name(s) {
-        Some((_, short)) => short,
-        None => s,
-    }
+    category_and_short_name(s).map_or(s, |(_, short)| short)
 }
 
 // Whether s is a full name: refused 3 over 250 bytes, then 4 if it is not complete.
@@ -150,22 +144,24 @@ pub fn check_full(s: &[u8]) -> Result<(), Refusal>
 }
 
 // The full name s, checked.
-#[tactic(auto, using(crate::proofs::Rows::cut_full), unfolding(crate::specs::Means::full_checked))]
-pub fn full_name(s: &[u8]) -> Result<FullName, Refusal>
-    ensures { checked_of full_content result ≡ full_checked s.now }
-{
-    check_full(s)?;
-    Ok(FullName(Name::cut(s)))
+impl TryFrom<&[u8]> for FullName {
+    type Error = Refusal;
+
+    ghost try_from_gives = { λ s r. checked_of full_content r ≡ full_checked s.now };
+
+    #[tactic(auto, using(crate::proofs::Rows::cut_full), unfolding(crate::specs::Means::full_checked))]
+    fn try_from(s: &[u8]) -> Result<FullName, Refusal> {
+        check_full(s)?;
+        Ok(FullName(Name::cut(s)))
+    }
 }
 
 // A name of p behind the prefix, unless it begins with it already.
 fn behind(prefix: &[u8], p: &[u8]) -> Option<Name>
     ensures { made_name result ≡ if_fits (behind prefix.now p.now) }
 {
-    if starts_with(p, prefix) {
-        return Name::joined(b"", b"", p);
-    }
-    Name::joined(b"", prefix, p)
+    let front: &[u8] = if starts_with(p, prefix) { b"" } else { prefix };
+    Name::joined(b"", front, p)
 }
 
 // The same with the prefix of a linked worktree's names.

@@ -6,4 +6,5 @@ pub mod find;
 pub mod fullname;
 pub mod name;
 pub mod namespace;
+pub mod partial;
 pub mod validate;

@@ -1,13 +1,13 @@
 // Namespaces (namespace.rs).
-ghost use Rattle.std.specs.Prelude.{◌≡◌, ◌≤◌, length};
-ghost use Rattle.std.specs.Prelude.{None, Some};
+ghost use Rattle.std.specs.Prelude.{◌≡◌, ◌≤◌, length, None, Some, option_copied};
 ghost use Rattle.names.specs.Name.{longest, fits};
-ghost use Rattle.names.specs.Namespace.{expand, names_check, expanded};
-ghost use Rattle.names.specs.Means.{expansion_content, made_name, if_fits, check_of, checked_of};
+ghost use Rattle.names.specs.Check.{checked};
+ghost use Rattle.names.specs.Namespace.{expand, expansion, names_check, expanded};
+ghost use Rattle.names.specs.Means.{content, expansion_content, made_name, if_fits, check_of, checked_of};
 ghost use Rattle.names.specs.Promises.{width_in};
 
-use crate::fullname::find_slash;
-use crate::name::{LONGEST, Name, Refusal, check_partial};
+use crate::name::{LONGEST, Name, Refusal};
+use crate::partial::check_partial;
 
 // The expansion of a namespace: what goes before every name in it.
 #[derive(Clone, Copy)]
@@ -18,12 +18,9 @@ fn expansion(s: &[u8]) -> Option<Name>
     ensures { made_name result ≡ if_fits (expand s.now) }
 {
     let mut name = Name::empty();
-    let mut rest = s;
-    while let Some(i) = find_slash(rest) {
-        name.push_parts(b"refs/namespaces/", &rest[..i], b"/").ok()?;
-        rest = &rest[i + 1..];
+    for part in s.split(|&b| b == b'/') {
+        name.push_parts(b"refs/namespaces/", part, b"/").ok()?;
     }
-    name.push_parts(b"refs/namespaces/", rest, b"/").ok()?;
     Some(name)
 }
 
@@ -40,18 +37,6 @@ fn width_in(b: u8) -> usize
     if b == b'/' { AROUND } else { 1 }
 }
 
-// The length of the expansion, counted so that a check need not make it.
-fn expansion_len(s: &[u8]) -> usize
-    requires { length s.now ≤ longest }
-    ensures { result ≡ length (expand s.now) }
-{
-    let mut n = AROUND;
-    for &b in s {
-        n += width_in(b);
-    }
-    n
-}
-
 // Whether a name holds the expansion, counted where that is not known from the length.
 fn expansion_fits(s: &[u8]) -> bool
     requires { length s.now ≤ longest }
@@ -60,10 +45,11 @@ fn expansion_fits(s: &[u8]) -> bool
     if s.len() <= SHORT {
         return true;
     }
-    expansion_len(s) <= LONGEST
+    AROUND + s.iter().map(|&b| width_in(b)).sum::<usize>() <= LONGEST
 }
 
 // Whether s is a namespace: refused 3 over 250 bytes, then 4 if malformed, then 5 if its expansion is over 250 bytes.
+// Kept: `expand` would make 250 bytes that a check throws away; a check alone is what C asks.
 pub fn check_namespace(s: &[u8]) -> Result<(), Refusal>
     ensures { check_of result ≡ names_check None (Some s.now) }
 {
@@ -76,12 +62,21 @@ pub fn check_namespace(s: &[u8]) -> Result<(), Refusal>
 }
 
 // The namespace s, checked.
+// Kept: `expand` is its name in the Rust, and it makes another text than s, so no `TryFrom`.
 pub fn expand(s: &[u8]) -> Result<Namespace, Refusal>
     ensures { checked_of expansion_content result ≡ expanded s.now }
 {
     check_partial(s)?;
-    match expansion(s) {
-        Some(name) => Ok(Namespace(name)),
-        None => Err(Refusal::ExpansionTooLong),
+    Ok(Namespace(expansion(s).ok_or(Refusal::ExpansionTooLong)?))
+}
+
+// What goes before every name: the namespace's expansion, checked, or nothing where there is no namespace.
+#[tactic(auto, unfolding(crate::specs::Namespace::names_check, crate::specs::Namespace::expanded))]
+pub fn expansion_of(namespace: Option<&[u8]>) -> Result<Name, Refusal>
+    ensures { checked_of content result ≡ checked (names_check None (option_copied namespace.entry)) (expansion (option_copied namespace.entry)) }
+{
+    match namespace {
+        Some(s) => Ok(expand(s)?.0),
+        None => Ok(Name::empty()),
     }
 }

@@ -5,6 +5,7 @@ ghost use Rattle.std.specs.Prelude.{◌≡◌, replicate};
 ghost use Rattle.output.specs.Pasted.{pasted};
 
 // Writes s over the buffer from position `at` on; what finds no room is left out.
+// Kept: tried a function that lends the part, here and in `clear`: its clause (`follows`) is found only for a field or a call's result, not for a part of a slice.
 #[tactic(auto, using(crate::proofs::Pastes::lent_part))]
 pub fn put(out: &mut [u8], at: usize, s: &[u8])
     ensures { out.new ≡ pasted out.old at s.now }

@@ -4,9 +4,6 @@ use Rattle.names.proofs.Parts.{tail_part}
 use Rattle.names.proofs.ByteRules.{rules_at, rules_end, step_fits}
 use Rattle.names.proofs.validate.all_fit.Goals as goal
 
-pub loop-i-init : goal.loop-i-init
-loop-i-init c = (c.sure_front-start.ensures.0, rw c.byte_before-p.ensures c.sure_front-start.ensures.1)
-
 pub returns-then-not-fits_after : goal.returns-then-not-fits_after
 returns-then-not-fits_after c =
     let s = c.args.s.now in

@@ -2,7 +2,7 @@ use lib.ListN.{length}
 use borrow.Author.Tests.{le-leb, lt-leb}
 use Rattle.names.specs.Name.{longest}
 use Rattle.names.specs.Namespace.{names_check}
-use Rattle.names.proofs.name.check_partial.Goals as goal
+use Rattle.names.proofs.partial.check_partial.Goals as goal
 
 -- 3 where the bytes do not fit, then 4.
 pub returns-then-s-gt-LONGEST : goal.returns-then-s-gt-LONGEST

@@ -2,8 +2,8 @@ use mathlib.Core.Path.{◌≡◌}
 use mathlib.Core.Bool.{◌||◌}
 use Rattle.names.specs.Bytes.{bytes, starts_with}
 use Rattle.names.specs.Name.{looks_full}
-use Rattle.names.proofs.name.looks_like_full_name.Goals as goal
-use Rattle.names.proofs.name.looks_like_full_name.Goals.{then-starts_with, else-starts_with, then-starts_with-2, else-starts_with-2}
+use Rattle.names.proofs.partial.looks_like_full_name.Goals as goal
+use Rattle.names.proofs.partial.looks_like_full_name.Goals.{then-starts_with, else-starts_with, then-starts_with-2, else-starts_with-2}
 
 -- The tests are the definition's, one by one.
 pub returns-then-starts_with-3 : goal.returns-then-starts_with-3
