@@ -7,12 +7,11 @@ use Prim.Native.Nat.{ℕ, ◌+◌, ◌≤◌}
 use native.Mathlib.Omega.{arith}
 use borrow.Author.Tests.{leb-true, le-leb, ne_eqb}
 use lib.Dec.{leb, eqb}
-use lib.ListN.{length}
 use Rattle.names.specs.Bytes.{Bytes, every}
 use Rattle.names.specs.Name.{longest}
 use Rattle.names.specs.WellFormed.{well_formed}
 use Rattle.names.proofs.Tests.{and_left, and_right, none≢Some}
-use Rattle.blocks.specs.Layout.{block_size, longest_content}
+use Rattle.blocks.specs.Layout.{longest_content}
 use Rattle.blocks.specs.Content.{is_hex}
 use Rattle.blocks.specs.Block.{Region, block_kind, name_length, content_length, block_name, block_content, lengths_right, unused_zero, sum_right, layout_right, kind_suits, record_right, shape_right, sound}
 use Rattle.blocks.specs.Entry.{failed, entry_of}
@@ -26,8 +25,8 @@ pub lengths_content : (b : Bytes) → lengths_right b ≡ true → content_lengt
 unfolding lengths_right
 lengths_content b h = leb-true _ _ (and_right (leb (name_length b) longest) _ h)
 
-pub within : (b : Bytes) → length b ≡ block_size → lengths_right b ≡ true → Within b
-within b l h = record { size = l; name = lengths_name b h; content = lengths_content b h }
+pub within : (b : Bytes) → lengths_right b ≡ true → Within b
+within b h = record { name = lengths_name b h; content = lengths_content b h }
 
 -- a byte that is a kind is its number
 pub kind_at : (b : Bytes) (n : ℕ) → Some n ≡ a_kind (block_kind b) → n ≡ block_kind b

@@ -27,10 +27,6 @@ unfolding begins_hex
 digit_got s i None r h e f = rw (e, drop_of_length-le s h)
 digit_got s i (Some x) r h e f = rw (f x e, drop-cons s i 0 h.0, h.1 0)
 
-pub target_short : (s : Bytes) → length s ≤ length (bytes "ref: ") → [] ≡ target_name_in s
-unfolding line skip_spaces
-target_short s h = rw (drop_of_length-le s h)
-
 -- ---- by how it begins
 
 module _ (width : ℕ) (s : Bytes) where

@@ -1,9 +1,7 @@
 -- Fitness: the flaw of one block, and one step of the scan of a region.
-use mathlib.Core.Path.{◌≡◌, refl, sym, ◌∙◌}
-use mathlib.Core.Bool.{true, not, false≢true}
-use mathlib.Core.List.{[]}
+use mathlib.Core.Path.{◌≡◌, refl, sym}
 use Rattle.std.specs.Prelude.{Option, None, Some}
-use Prim.Native.Nat.{ℕ, suc, ◌+◌, ◌≤◌, ◌<◌, Ordering}
+use Prim.Native.Nat.{ℕ, suc, ◌+◌, ◌≤◌, ◌<◌}
 use native.Mathlib.Numerals.{add-one}
 use native.Mathlib.Omega.{arith}
 use lib.ListN.{length, drop, drop_of_length-le}
@@ -11,19 +9,14 @@ use Rattle.names.specs.Bytes.{Bytes}
 use Rattle.names.proofs.Tests.{none≢Some}
 use Rattle.blocks.specs.Block.{Region}
 use Rattle.blocks.specs.Entry.{name_of, entry, entries}
-use Rattle.blocks.specs.Fitness.{Flaw, eight_unless, flaw, flaw_or, flaw_from, first_flaw}
-use Rattle.blocks.specs.Snapshot.{Snapshot, Store, or_empty, is_there, or_flaw, store, store_flaw}
+use Rattle.blocks.specs.Fitness.{Flaw, flaw, flaw_or, flaw_from, first_flaw}
+use Rattle.blocks.specs.Snapshot.{Snapshot, Store, or_empty, or_flaw, store, store_flaw}
 use Rattle.blocks.specs.Means.{block_at, block_count}
 use Rattle.blocks.proofs.Walks.{length_entries}
 use Rattle.blocks.proofs.Entries.{entries_at}
 use Rattle.blocks.proofs.Stores.{entries_if_any, store_is}
 
 -- ---- the name before
-
-pub eight_none : (o : Ordering) → not (is_there (eight_unless o)) ≡ true → eight_unless o ≡ None
-eight_none Ordering.lt h = refl
-eight_none Ordering.eq h = absurd (false≢true h)
-eight_none Ordering.gt h = absurd (false≢true h)
 
 -- ---- the scan
 
@@ -51,10 +44,6 @@ module _ (width : ℕ) (r : Region) (s : Bytes) where
     scan_end h =
         let l : length (entries width r s) ≤ k = omega (arith, length_entries width r s) in
         rw (drop_of_length-le (entries width r s) l)
-
--- a region without blocks has no flaw
-pub no_blocks_flawless : (width : ℕ) (r : Region) → first_flaw r (entries width r []) ≡ None
-no_blocks_flawless width r = scan_start width r [] ∙ scan_end width r [] None 0 (omega arith)
 
 -- ---- three regions
 

@@ -11,23 +11,20 @@ use Rattle.std.specs.Borrow.{Bor}
 use Rattle.std.specs.Option.{MatchOption, unwrap_or}
 use mathlib.Core.Logic.{◌⊎◌, ⊎_elim}
 use borrow.Author.Tests.{leb-true, le-leb, lt-leb}
-use lib.Dec.{leb, ltb}
+use lib.Dec.{leb}
 use lib.ListN.{length, take, drop, length-take, length-drop, drop_of_length-le}
 use lib.Seq.{take_all}
 use Rattle.names.specs.Bytes.{Bytes}
 use Rattle.names.specs.Name.{longest}
+use Rattle.names.proofs.Parts.{tail_part}
 use Rattle.blocks.specs.Layout.{block_size, name_at, content_at, longest_content}
 use Rattle.blocks.specs.Block.{between, name_length, content_length, block_name, block_content}
 use Rattle.blocks.specs.Entry.{loose, packed_record, peeled_in, entry_of}
-use Rattle.blocks.specs.Means.{block_at, block_count, name_within, content_within, name_in, content_in}
+use Rattle.blocks.specs.Means.{block_at, block_count, name_within, content_within}
 
 -- a part that begins at a and has n bytes
 pub part_is : (s : Bytes) (a n : ℕ) → between s a (a + n) ≡ take n (drop a s)
 part_is s a n = rw add-sub_cancel_left
-
--- a part up to the end
-pub rest_is : (s : Bytes) (i : ℕ) → take (length s - i) (drop i s) ≡ drop i s
-rest_is s i = take_all (length s - i) (drop i s) (simp length-drop (omega arith))
 
 pub length_block : (s : Bytes) (k : ℕ) → k < block_count s → length (block_at s k) ≡ block_size
 length_block s k h = simp (length-take, length-drop) (omega arith)
@@ -39,16 +36,6 @@ module _ (b : Bytes) where
   pub content_held : content_length b ≤ longest_content → content_within b ≡ block_content b
   content_held h = rw (le-leb (content_length b) longest_content h)
 
--- how long they are, where the lengths are right
-module _ (b : Bytes) (l : length b ≡ block_size) where
-  pub name_long : name_length b ≤ longest → length (block_name b) ≡ name_length b
-  unfolding block_name
-  name_long h = simp (length-take, length-drop) (omega arith)
-
-  pub content_long : content_length b ≤ longest_content → length (block_content b) ≡ content_length b
-  unfolding block_content
-  content_long h = simp (length-take, length-drop) (omega arith)
-
 -- ---- names and contents are short enough
 
 within_longest : (m k : ℕ) (s : Bytes) → length (if leb k m then take k s else []) ≤ m
@@ -58,10 +45,6 @@ within_longest m k s = go (leb k m) refl
     go true e = omega (arith, length-take k s, leb-true k m e)
     go false e = omega arith
 
-in_longest : (m : ℕ) (b : Bool) (s : Bytes) → length s ≤ m → length (if b then s else []) ≤ m
-in_longest m true s h = h
-in_longest m false s h = omega arith
-
 pub name_within_short : (b : Bytes) → length (name_within b) ≤ longest
 unfolding block_name
 name_within_short b = within_longest longest (name_length b) (drop name_at b)
@@ -69,13 +52,6 @@ name_within_short b = within_longest longest (name_length b) (drop name_at b)
 pub content_within_short : (b : Bytes) → length (content_within b) ≤ longest_content
 unfolding block_content
 content_within_short b = within_longest longest_content (content_length b) (drop content_at b)
-
--- the same of block k
-pub name_short : (s : Bytes) (k : ℕ) → length (name_in s k) ≤ longest
-name_short s k = in_longest longest (ltb k (block_count s)) _ (name_within_short (block_at s k))
-
-pub content_short : (s : Bytes) (k : ℕ) → length (content_in s k) ≤ longest_content
-content_short s k = in_longest longest_content (ltb k (block_count s)) _ (content_within_short (block_at s k))
 
 -- ---- entries
 
@@ -106,4 +82,4 @@ pub rest_got : (s : Bytes) (i : ℕ) (o : Option (Bor Bytes)) (d r : Bor Bytes) 
 rest_got s i None d r e h f =
     let l : length s ≤ i = ⊎_elim (λ a. omega arith) (λ a. omega arith) h in
     rw (f, e, drop_of_length-le s l)
-rest_got s i (Some x) d r e h f = rw (f, h.2, rest_is s i)
+rest_got s i (Some x) d r e h f = rw (f, h.2, tail_part s i)

@@ -3,6 +3,8 @@ use mathlib.Core.Path.{◌≡◌, refl, sym}
 use Prim.Native.Nat.{ℕ, ◌*◌, ◌≤◌}
 use native.Mathlib.Omega.{arith}
 use mathlib.Core.Bool.{Bool, true, false, ◌&&◌}
+use mathlib.Core.List.{[], ◌∷◌}
+use Rattle.std.specs.List.{list_all}
 use Rattle.std.specs.Prelude.{Option, None, Some}
 use Rattle.std.specs.Option.{option_map}
 use borrow.Author.Tests.{leb-true}
@@ -16,6 +18,16 @@ use Rattle.blocks.specs.Entry.{entries}
 use Rattle.blocks.specs.Fitness.{whole, not_too_many}
 use Rattle.blocks.specs.Snapshot.{Snapshot, Store, store, or_empty, sizes_within, size_check}
 use Rattle.blocks.proofs.Walks.{length_entries}
+
+-- of three in a row
+pub all_three : (test : ℕ → Bool) (w c p : ℕ) → list_all test (w ∷ c ∷ p ∷ []) ≡ (test w && test c && test p)
+all_three test w c p = go (test w) (test c) (test p)
+  where
+    go : (x y z : Bool) → (x && (y && (z && true))) ≡ (x && y && z)
+    go true true true = refl
+    go true true false = refl
+    go true false z = refl
+    go false y z = refl
 
 -- no more blocks than are allowed
 pub record SizesRight (most w c p : ℕ) : Type 0 where

@@ -1,15 +1,15 @@
 -- The weighted sum by parts, and sums that are 0.
 use mathlib.Core.Path.{◌≡◌, refl, ap}
 use mathlib.Core.List.{[], ◌∷◌}
-use mathlib.Core.Bool.{true, ◌&&◌}
+use mathlib.Core.Bool.{Bool, true, false, ◌&&◌}
 use Prim.Native.Nat.{ℕ, suc, ◌+◌, ◌*◌, ◌-◌, ◌≤◌, ◌<◌}
 use native.Mathlib.Nat.{mul-le-mul_left}
 use native.Mathlib.Numerals.{add-one}
 use native.Mathlib.Omega.{arith}
-use borrow.Author.Tests.{eqb-true}
-use lib.Dec.{eqb}
-use lib.ListN.{length, take, drop, get_or, length-take, length-drop}
-use lib.Seq.{take-suc, take-add, drop-drop}
+use borrow.Author.Tests.{eqb-true, leb-true, leb-false}
+use lib.Dec.{eqb, leb}
+use lib.ListN.{length, take, drop, get_or, length-take, length-drop, drop_of_length-le}
+use lib.Seq.{take-nil, take-suc, take-add, drop-drop}
 use Rattle.names.specs.Bytes.{Bytes, every}
 use Rattle.names.proofs.Tests.{and_left, and_right}
 use Rattle.names.proofs.Walks.{every_more}
@@ -46,12 +46,23 @@ zeros_sum k (x ∷ s) h =
     rw (e, zeros_sum (suc k) s (and_right (eqb x 0) _ both)) (omega arith)
 
 -- from i to j, and from there to k
-sum_split : (b : Bytes) (i j k : ℕ) → i ≤ j → j ≤ k → j ≤ length b → weighted i (between b i k) ≡ weighted i (between b i j) + weighted j (between b j k)
-sum_split b i j k p q l =
+sum_split : (b : Bytes) (i j k : ℕ) → i ≤ j → j ≤ k → weighted i (between b i k) ≡ weighted i (between b i j) + weighted j (between b j k)
+unfolding weighted
+sum_split b i j k p q =
     let m : k - i ≡ (j - i) + (k - j) = omega arith in
-    let n : length (take (j - i) (drop i b)) ≡ j - i = simp (length-take, length-drop) (omega arith) in
     let o : i + (j - i) ≡ j = omega arith in
-    rw (m, take-add (j - i) (k - j) (drop i b), drop-drop (j - i) i b, o, weighted_append i (take (j - i) (drop i b)) (take (k - j) (drop j b)), n, o)
+    rw (m, take-add (j - i) (k - j) (drop i b), drop-drop (j - i) i b, o, weighted_append i (take (j - i) (drop i b)) (take (k - j) (drop j b)), behind (leb j (length b)) refl)
+  where
+    -- past the end there is nothing, so that its position does not count
+    behind : (t : Bool) → leb j (length b) ≡ t → weighted (i + length (take (j - i) (drop i b))) (take (k - j) (drop j b)) ≡ weighted j (take (k - j) (drop j b))
+    behind true e =
+        let l = leb-true j (length b) e in
+        let n : i + length (take (j - i) (drop i b)) ≡ j = simp (length-take, length-drop) (omega arith) in
+        rw n
+    behind false e =
+        let f = leb-false j (length b) e in
+        let l : length b ≤ j = omega arith in
+        rw (drop_of_length-le b l, take-nil {A = ℕ} (k - j))
 
 -- only what the header, the name and the content hold counts, where the rest is 0
 module _ (b : Bytes) (w : Within b) (z : unused_zero b ≡ true) where
@@ -69,12 +80,11 @@ module _ (b : Bytes) (w : Within b) (z : unused_zero b ≡ true) where
   used_sum =
       let n = name_at + name_length b in
       let c = content_at + content_length b in
-      let long = w.size in
-      let header = sum_split b 0 zero_at sum_at (omega arith) (omega arith) (omega arith) in
-      let unused = sum_split b zero_at name_at sum_at (omega arith) (omega arith) (omega arith) in
-      let name = sum_split b name_at n sum_at (omega arith) (omega (arith, w.name)) (omega (arith, w.name)) in
-      let behind = sum_split b n content_at sum_at (omega (arith, w.name)) (omega arith) (omega arith) in
-      let content = sum_split b content_at c sum_at (omega arith) (omega (arith, w.content)) (omega (arith, w.content)) in
+      let header = sum_split b 0 zero_at sum_at (omega arith) (omega arith) in
+      let unused = sum_split b zero_at name_at sum_at (omega arith) (omega arith) in
+      let name = sum_split b name_at n sum_at (omega arith) (omega (arith, w.name)) in
+      let behind = sum_split b n content_at sum_at (omega (arith, w.name)) (omega arith) in
+      let content = sum_split b content_at c sum_at (omega arith) (omega (arith, w.content)) in
       let None = zeros_sum zero_at _ zeros.0 in
       let none2 = zeros_sum n _ zeros.1 in
       let none3 = zeros_sum c _ zeros.2 in

@@ -48,7 +48,6 @@ stored_sum b = two_bytes b sum_at + two_bytes b (sum_at + 2) * 65536
 
 -- a block whose lengths are right
 pub record Within (b : Bytes) : Type 0 where
-  pub size : length b ≡ block_size
   pub name : name_length b ≤ longest
   pub content : content_length b ≤ longest_content
 
@@ -121,13 +120,13 @@ taken_in width s i = if ltb i (block_count s) then Some (taken_entry width (bloc
 
 -- ---- ids
 
--- s, with zeros behind it
-abbrev pub padded : ℕ → Bytes → Bytes
-padded n s = s ++ replicate n 0
+-- a text in a field of so many bytes, zeros behind it
+unfoldable pub padded : ℕ → Bytes → Bytes
+padded width s = take width (s ++ replicate width 0)
 
 -- the id that s begins with, zeros following where s is shorter
 abbrev pub id_in : ℕ → Bytes → Bytes
-id_in width s = lower_case (take width (padded width s))
+id_in width s = lower_case (padded width s)
 
 -- an id's digits stand in front
 abbrev pub begins_with_id : ℕ → Bytes → Bool

@@ -4,9 +4,9 @@ ghost use Rattle.std.specs.Option.{option_map};
 ghost use Rattle.std.specs.Result.{result_ok};
 ghost use Rattle.names.specs.Bytes.{every};
 ghost use Rattle.names.specs.Name.{longest};
-ghost use Rattle.blocks.specs.Layout.{block_size, content_at, sum_at};
+ghost use Rattle.blocks.specs.Layout.{block_size, content_at, longest_content, sum_at};
 ghost use Rattle.blocks.specs.Block.{is_zero, block_kind, block_name, block_content, content_length, name_length, lengths_right, weighted, sum_right, unused_zero, kind_suits, record_right, shape_right, sound};
-ghost use Rattle.blocks.specs.Entry.{name_of, entry, entry_of};
+ghost use Rattle.blocks.specs.Entry.{name_of, entry, entry_of, blocks};
 ghost use Rattle.blocks.specs.Means.{id_width, kind_number, a_kind, entry_as, stored_sum, region_of, block_at, block_count, name_within, content_within, Within, NeverSound, taken_entry, name_in, content_in, entry_in, taken_in};
 
 use crate::parse::{ID_WIDTH, all_hex};
@@ -147,13 +147,9 @@ impl<'a> Entry<'a> {
     {
         match self {
             Entry::Damaged | Entry::Failed => None,
-            Entry::Loose { name, content: _ }
-            | Entry::Unread { name }
-            | Entry::Record {
-                name,
-                target: _,
-                peeled: _,
-            } => Some(name),
+            Entry::Loose { name, .. } | Entry::Unread { name } | Entry::Record { name, .. } => {
+                Some(name)
+            }
         }
     }
 }
@@ -173,12 +169,13 @@ fn part_sum(s: &[u8], k: u16) -> u32
 }
 
 // Whether every byte is 0. All are looked at, so that the loop has one way out and many are compared at once.
+// Kept: `all_hex` is this loop with another test: one function for both would take the test as a closure and promise by its clause, no shorter.
 fn all_zero(s: &[u8]) -> bool
     ensures { result ≡ every is_zero s.now }
 {
     let mut zero = true;
     for &b in s {
-        zero = zero & (b == 0);
+        zero &= b == 0;
     }
     zero
 }
@@ -190,34 +187,28 @@ fn is_id_length(n: usize) -> bool
     n == ID_WIDTH || n == 2 * ID_WIDTH
 }
 
+// The blocks of a region.
+#[tactic(auto, using(crate::proofs::Chunks::blocks_are))]
+pub(crate) fn blocks(s: &[u8]) -> &[[u8; BLOCK_SIZE]]
+    ensures value { result.now ≡ blocks s.now }
+    ensures count { length result.now ≡ block_count s.now }
+{
+    s.as_chunks().0
+}
+
 // The bytes of a block.
 #[derive(Clone, Copy)]
 pub(crate) struct Block<'a> {
-    bytes: &'a [u8],
-    ghost whole: { length bytes.now ≡ block_size },
+    pub(crate) bytes: &'a [u8; BLOCK_SIZE],
 }
 
 impl<'a> Block<'a> {
-    // Block k of a region.
-    pub(crate) fn at(s: &'a [u8], k: usize) -> Block<'a>
-        requires { k < block_count s.now }
-        ensures { result.bytes.now ≡ block_at s.now k }
-    {
-        let a = k * BLOCK_SIZE;
-        Block {
-            bytes: &s[a..a + BLOCK_SIZE],
-        }
-    }
-
-    // The same, and none past the last.
+    // Block k of a region, and none past the last.
     fn get(s: &'a [u8], k: usize) -> Option<Block<'a>>
         ensures { MatchOption result (block_count s.now ≤ k) (λ b. (k < block_count s.now) × (b.bytes.now ≡ block_at s.now k)) }
     {
-        if k < s.len() / BLOCK_SIZE {
-            Some(Block::at(s, k))
-        } else {
-            None
-        }
+        let bytes = blocks(s).get(k)?;
+        Some(Block { bytes })
     }
 
     #[tactic(auto, unfolding(crate::specs::Block::name_length))]
@@ -259,18 +250,21 @@ impl<'a> Block<'a> {
     // n bytes from a position on, and none where that is more than the most.
     fn part(self, at: usize, n: usize, most: usize) -> &'a [u8]
         requires { at + most ≤ block_size }
-        ensures { result.now ≡ (if leb n most then take n (drop at self.entry.bytes.now) else []) }
+        ensures value { result.now ≡ (if leb n most then take n (drop at self.entry.bytes.now) else []) }
+        ensures long { n ≤ most → length result.now ≡ n }
     {
         if most < n {
             return &[];
         }
-        &self.bytes[at..at + n]
+        let bytes = self.bytes;
+        &bytes[at..at + n]
     }
 
     // The name, empty where its length is over the longest.
     #[tactic(auto, unfolding(crate::specs::Block::block_name))]
     fn name(self) -> &'a [u8]
-        ensures { result.now ≡ name_within self.entry.bytes.now }
+        ensures value { result.now ≡ name_within self.entry.bytes.now }
+        ensures long { name_length self.entry.bytes.now ≤ longest → length result.now ≡ name_length self.entry.bytes.now }
     {
         self.part(NAME_AT, self.name_len(), LONGEST)
     }
@@ -278,7 +272,8 @@ impl<'a> Block<'a> {
     // The content, in the same way.
     #[tactic(auto, unfolding(crate::specs::Block::block_content))]
     fn content(self) -> &'a [u8]
-        ensures { result.now ≡ content_within self.entry.bytes.now }
+        ensures value { result.now ≡ content_within self.entry.bytes.now }
+        ensures long { content_length self.entry.bytes.now ≤ longest_content → length result.now ≡ content_length self.entry.bytes.now }
     {
         self.part(CONTENT_AT, self.content_len(), LONGEST_CONTENT)
     }
@@ -287,9 +282,7 @@ impl<'a> Block<'a> {
     fn parts(self) -> Option<Parts<'a>>
         ensures { MatchOption result (NeverSound self.entry.bytes.now) (λ p. p.block.bytes.now ≡ self.entry.bytes.now) }
     {
-        let Ok(kind) = Kind::try_from(self.bytes[KIND_AT]) else {
-            return None;
-        };
+        let kind = Kind::try_from(self.bytes[KIND_AT]).ok()?;
         if !self.lengths_right() {
             return None;
         }
@@ -356,7 +349,8 @@ impl<'a> Parts<'a> {
         requires { unused_zero self.now.block.bytes.now ≡ true }
         ensures { result ≡ weighted 0 (take sum_at self.now.block.bytes.now) }
     {
-        part_sum(&self.block.bytes[..ZERO_AT], 0)
+        let b = self.block.bytes;
+        part_sum(&b[..ZERO_AT], 0)
             + part_sum(self.name, NAME_AT as u16)
             + part_sum(self.content, CONTENT_AT as u16)
     }
@@ -394,6 +388,7 @@ impl<'a> Parts<'a> {
 }
 
 // The name of block k of a region, as a part of the region, and nothing past the last block.
+// Kept: a region's bytes and a place: a struct of both would be made for each call, and refs has one for a region that is fit.
 pub fn block_name(s: &[u8], k: usize) -> &[u8]
     ensures { result.now ≡ name_in s.now k }
 {

@@ -8,15 +8,15 @@ use names::bytes::{equal, starts_with};
 use names::name::Name;
 use names::validate::complete;
 
-// The length of `ref: `.
-const REF_LENGTH: usize = 5;
+// What a symbolic content begins with.
+const REF_LENGTH: usize = b"ref: ".len();
 
 // Why a content is refused: 10, 11 and 12.
 #[derive(Clone, Copy, Debug, PartialEq, Eq)]
 pub enum Refusal {
-    Unreadable,
-    Incomplete,
-    Unsupported,
+    Unreadable = 10,
+    Incomplete = 11,
+    Unsupported = 12,
 }
 
 // The number in document 01's table.
@@ -24,11 +24,7 @@ impl From<Refusal> for u32 {
     ghost from_gives = { λ why n. n ≡ refusal_number why };
 
     fn from(why: Refusal) -> u32 {
-        match why {
-            Refusal::Unreadable => 10,
-            Refusal::Incomplete => 11,
-            Refusal::Unsupported => 12,
-        }
+        why as u32
     }
 }
 
@@ -40,6 +36,7 @@ pub enum TargetRef<'a> {
 }
 
 // The same, held by itself.
+// Kept: borrowed and owned, as in gix-ref: one generic type would be named with both its parts' types at each use.
 #[derive(Clone, Copy)]
 pub enum Target {
     Object(Id),
@@ -47,6 +44,7 @@ pub enum Target {
 }
 
 // What stands behind the spaces in front.
+// Kept: `first_line` looks alike, but hands on the front and this the rest: what both share is the one call of `position`.
 fn after_spaces(s: &[u8]) -> &[u8]
     ensures { result.now ≡ skip_spaces s.now }
 {
@@ -122,10 +120,8 @@ pub fn read(s: &[u8]) -> Result<TargetRef<'_>, Refusal>
 fn held(t: &[u8]) -> Result<Target, Refusal>
     ensures { reading_of result ≡ name_reading t.now }
 {
-    match Name::try_from(t) {
-        Ok(name) => Ok(Target::Symbolic(name)),
-        Err(_) => Err(Refusal::Incomplete),
-    }
+    let name = Name::try_from(t).map_err(|_| Refusal::Incomplete)?;
+    Ok(Target::Symbolic(name))
 }
 
 // The target that a loose file's content gives, or why it is refused.

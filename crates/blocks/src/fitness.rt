@@ -5,16 +5,15 @@ ghost use Rattle.blocks.specs.Fitness.{whole, not_too_many, above, flaw, first_f
 ghost use Rattle.blocks.specs.Snapshot.{sizes_within, size_check, store, store_flaw};
 ghost use Rattle.blocks.specs.Means.{id_width, region_of, entry_as, snapshot_of, size_number, sizes_check, reason_number, reason_check, flaw_of};
 
-use crate::block::{BLOCK_SIZE, Block, Entry, MOST_BLOCKS, Region};
-use crate::snapshot::Snapshot;
+use crate::block::{BLOCK_SIZE, Block, Entry, MOST_BLOCKS, Region, blocks};
+use crate::snapshot::{Sizes, Snapshot};
 use names::bytes::compare;
-use std::cmp::Ordering;
 
 // Why sizes are refused: 1 and 2.
 #[derive(Clone, Copy, Debug, PartialEq, Eq)]
 pub enum SizeError {
-    NotWhole,
-    TooMany,
+    NotWhole = 1,
+    TooMany = 2,
 }
 
 // The number in document 01's table.
@@ -22,10 +21,7 @@ impl From<SizeError> for u32 {
     ghost from_gives = { λ e n. n ≡ size_number e };
 
     fn from(e: SizeError) -> u32 {
-        match e {
-            SizeError::NotWhole => 1,
-            SizeError::TooMany => 2,
-        }
+        e as u32
     }
 }
 
@@ -41,26 +37,21 @@ fn is_not_too_many(most: u32, size: usize) -> bool
     size <= most as usize * BLOCK_SIZE
 }
 
-// Rows 1 and 2 of three sizes, where a region may have so many blocks: the earlier row first, whatever the region.
-#[tactic(auto, unfolding(crate::specs::Snapshot::sizes_within))]
-pub fn sizes_within(
-    most: u32,
-    worktree: usize,
-    common: usize,
-    packed: usize,
-) -> Result<(), SizeError>
-    ensures { sizes_check result ≡ sizes_within most worktree common packed }
-{
-    if !(is_whole(worktree) && is_whole(common) && is_whole(packed)) {
-        return Err(SizeError::NotWhole);
-    }
-    if !(is_not_too_many(most, worktree)
-        && is_not_too_many(most, common)
-        && is_not_too_many(most, packed))
+impl Sizes {
+    // Rows 1 and 2, where a region may have so many blocks: the earlier row first, whatever the region.
+    #[tactic(auto, unfolding(crate::specs::Snapshot::sizes_within))]
+    pub fn check(self, most: u32) -> Result<(), SizeError>
+        ensures { sizes_check result ≡ sizes_within most self.worktree self.common self.packed }
     {
-        return Err(SizeError::TooMany);
+        let sizes = [self.worktree, self.common, self.packed];
+        if !sizes.iter().all(|&n| is_whole(n)) {
+            return Err(SizeError::NotWhole);
+        }
+        if !sizes.iter().all(|&n| is_not_too_many(most, n)) {
+            return Err(SizeError::TooMany);
+        }
+        Ok(())
     }
-    Ok(())
 }
 
 // Rows 1 and 2 of a snapshot.
@@ -68,20 +59,15 @@ pub fn sizes_within(
 pub fn size_check(s: Snapshot<'_>) -> Result<(), SizeError>
     ensures { sizes_check result ≡ size_check (snapshot_of s.entry) }
 {
-    sizes_within(
-        MOST_BLOCKS,
-        s.worktree.len(),
-        s.common_or_empty().len(),
-        s.packed.len(),
-    )
+    s.sizes().check(MOST_BLOCKS)
 }
 
 // Why a block is unfit: 6, 7 and 8.
 #[derive(Clone, Copy, Debug, PartialEq, Eq)]
 pub enum Reason {
-    Damaged,
-    ErrorKind,
-    NotAbove,
+    Damaged = 6,
+    ErrorKind = 7,
+    NotAbove = 8,
 }
 
 // The number in document 01's table.
@@ -89,11 +75,7 @@ impl From<Reason> for u32 {
     ghost from_gives = { λ why n. n ≡ reason_number why };
 
     fn from(why: Reason) -> u32 {
-        match why {
-            Reason::Damaged => 6,
-            Reason::ErrorKind => 7,
-            Reason::NotAbove => 8,
-        }
+        why as u32
     }
 }
 
@@ -109,12 +91,9 @@ pub struct Unfit {
 fn order_fitness(before: Option<&[u8]>, name: &[u8]) -> Result<(), Reason>
     ensures { reason_check result ≡ above (option_copied before.entry) name.now }
 {
-    let Some(before) = before else {
-        return Ok(());
-    };
-    match compare(before, name) {
-        Ordering::Less => Ok(()),
-        Ordering::Equal | Ordering::Greater => Err(Reason::NotAbove),
+    match before {
+        Some(before) if compare(before, name).is_ge() => Err(Reason::NotAbove),
+        _ => Ok(()),
     }
 }
 
@@ -125,13 +104,9 @@ fn entry_fitness(before: Option<&[u8]>, entry: Entry<'_>) -> Result<(), Reason>
     match entry {
         Entry::Damaged => Err(Reason::Damaged),
         Entry::Failed => Err(Reason::ErrorKind),
-        Entry::Loose { name, content: _ }
-        | Entry::Unread { name }
-        | Entry::Record {
-            name,
-            target: _,
-            peeled: _,
-        } => order_fitness(before, name),
+        Entry::Loose { name, .. } | Entry::Unread { name } | Entry::Record { name, .. } => {
+            order_fitness(before, name)
+        }
     }
 }
 
@@ -140,8 +115,8 @@ pub fn region_fitness(s: &[u8], region: Region) -> Result<(), Unfit>
     ensures { flaw_of result ≡ first_flaw (region_of region) (entries id_width (region_of region) s.now) }
 {
     let mut before = None;
-    for k in 0..s.len() / BLOCK_SIZE {
-        let entry = Block::at(s, k).entry(region);
+    for (k, bytes) in blocks(s).iter().enumerate() {
+        let entry = Block { bytes }.entry(region);
         if let Err(reason) = entry_fitness(before, entry) {
             return Err(Unfit {
                 reason,

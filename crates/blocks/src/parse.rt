@@ -1,5 +1,5 @@
 // Hexadecimal digits and ids (parse.rs).
-ghost use Rattle.std.specs.Prelude.{◌≡◌, take, drop};
+ghost use Rattle.std.specs.Prelude.{◌≡◌, drop};
 ghost use Rattle.names.specs.Bytes.{every};
 ghost use Rattle.blocks.specs.Content.{is_hex};
 ghost use Rattle.blocks.specs.Means.{id_width, padded, id_in, begins_with_id};
@@ -15,12 +15,13 @@ pub fn is_hex_digit(b: u8) -> bool
 }
 
 // Whether every byte is a digit. All are looked at, so that the loop has one way out and many are looked at together.
+// Kept: the loop of `all_zero` with another test, for the reason that stands there.
 pub fn all_hex(s: &[u8]) -> bool
     ensures { result ≡ every is_hex s.now }
 {
     let mut hex = true;
     for &b in s {
-        hex = hex & is_hex_digit(b);
+        hex &= is_hex_digit(b);
     }
     hex
 }
@@ -33,7 +34,7 @@ pub struct Id {
 
 // The first bytes of s. Where it is shorter, zeros follow.
 fn padded(s: &[u8]) -> [u8; ID_WIDTH]
-    ensures { result ≡ take id_width (padded id_width s.now) }
+    ensures { result ≡ padded id_width s.now }
 {
     let n = s.len().min(ID_WIDTH);
     let mut bytes = [0; ID_WIDTH];
@@ -42,13 +43,12 @@ fn padded(s: &[u8]) -> [u8; ID_WIDTH]
 }
 
 // The id that s begins with. Where s is shorter, zeros follow.
+#[tactic(auto, using(crate::proofs::Ids::lowered))]
 pub fn id_of(s: &[u8]) -> Id
     ensures { result.digits ≡ id_in id_width s.now }
 {
     let mut digits = padded(s);
-    for d in &mut digits {
-        *d = d.to_ascii_lowercase();
-    }
+    digits.make_ascii_lowercase();
     Id { digits }
 }
 

@@ -1,26 +1,12 @@
-use mathlib.Core.Path.{◌≡◌, sym, ap, ap₂, ◌∙◌}
+use mathlib.Core.Path.{◌≡◌, sym, ap₂, ◌∙◌}
 use Prim.Native.Nat.{◌+◌, ◌*◌}
 use native.Mathlib.Nat.{mod-eq_of_lt}
-use lib.Seq.{take_all}
-use Rattle.blocks.specs.Block.{weighted}
 use Rattle.blocks.proofs.Sums.{weighted_more, weighted_none, product_le}
 use native.Mathlib.Omega.{arith}
 use Rattle.blocks.proofs.block.part_sum.Goals as goal
 
 pub loop-i-init : goal.loop-i-init
 loop-i-init c = (omega arith, sym (weighted_none c.args.k c.args.s.now))
-
-pub overflow_mul-sum : goal.overflow_mul-sum
-overflow_mul-sum c =
-    let x = c.type_inv.s c.loop-i.i in
-    let h = product_le c.from.result c.from-in-loop-i.result (omega arith) (omega arith) in
-    omega arith
-
-pub overflow_add-sum : goal.overflow_add-sum
-overflow_add-sum c =
-    let x = c.type_inv.s c.loop-i.i in
-    let h = product_le c.from.result c.from-in-loop-i.result (omega arith) (omega arith) in
-    omega arith
 
 pub loop-i-preserved : goal.loop-i-preserved
 loop-i-preserved c =
@@ -33,8 +19,3 @@ loop-i-preserved c =
     let e = ap₂ ◌*◌ w c.from-in-loop-i.ensures in
     let more = weighted_more start.k start.s.now i (omega arith) in
     (omega arith, omega arith)
-
-pub returns : goal.returns
-returns c =
-    let start = c.args in
-    (c.loop-i.invariant.1 ∙ ap (weighted start.k) (take_all c.loop-i.i start.s.now (omega arith)), omega arith)
