@@ -7,7 +7,6 @@ use Rattle.names.specs.Check.{Check, ◌or_else◌, gives, checked}
 use Rattle.names.specs.Namespace.{expansion, names_check}
 use Rattle.names.proofs.Rows.{names_none}
 use Rattle.blocks.specs.Snapshot.{Snapshot, size_check, Fit}
-use Rattle.refs.specs.Follow.{following}
 use Rattle.refs.specs.Run.{start, open_listing, run_opened, answers_of}
 use Rattle.refs.proofs.Clauses.{open_is, listing_is}
 use Rattle.claims.specs.Compared.{Rising}

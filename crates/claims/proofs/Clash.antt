@@ -6,11 +6,12 @@ use mathlib.Core.List.{List, [], ◌∷◌, ◌++◌}
 use mathlib.Core.Bool.{Bool, true, false, ◌||◌, false≢true, true≢false, or-true}
 use Rattle.std.specs.Prelude.{Option, None, Some}
 use lib.ListN.{length, drop}
+use Rattle.std.proofs.lemmas.Bool.{false_from_ne_true}
 use Rattle.names.specs.Bytes.{Bytes, bytes, starts_with, strip}
 use Rattle.names.specs.Name.{under_refs, directory}
 use Rattle.names.specs.Candidates.{Candidate}
 use Rattle.names.specs.Route.{Base, own, shared, route, packed_name}
-use Rattle.names.proofs.Tests.{if_case, if_eq, or_eq, false_of, not_both, none≢Some, none_of}
+use Rattle.names.proofs.Tests.{if_case, if_eq, or_eq, not_both, none≢Some, none_of}
 use Rattle.names.proofs.Orders.{same_refl}
 use Rattle.names.proofs.Prefix.{starts_trans, starts_longer, starts_split, directory_cancel, directory_starts, strip_kept}
 use Rattle.names.proofs.Placed.{begins_r, placed, placed_own, placed_under}
@@ -124,7 +125,7 @@ module _ (width : ℕ) (e : Bytes) where
             let p : Bytes = (route k.name).path in
             let a : starts_with m p ≡ true = directory_starts m p (sym (directory_cancel m e p) ∙ h) in
             let u : under_refs p ≡ true = starts_trans (bytes "refs/") m p d.under a in
-            path_absent t k u (false_of (held t (e ++ p)) (λ q. not_both h (cut.flat' (e ++ m) (e ++ p) (holds_held t m d.id d.holds') q)))
+            path_absent t k u (false_from_ne_true (held t (e ++ p)) (λ q. not_both h (cut.flat' (e ++ m) (e ++ p) (holds_held t m d.id d.holds') q)))
 
     pub clash_absent : clashes (path_of e k.name) (region_of s k.name) ≡ true → entry_for e t k ≡ None
     clash_absent h = let c = clash_of _ _ h in clash_by c (cut.each c.dir)

@@ -4,10 +4,11 @@ use mathlib.Core.Path.{◌≡◌, refl, sym, subst, ◌∙◌}
 use mathlib.Core.Logic.{◌⊎◌, inl}
 use mathlib.Core.List.{List, [], ◌∷◌, ◌++◌}
 use mathlib.Core.Bool.{Bool, true, false, ◌&&◌, ◌||◌, not}
+use Rattle.std.proofs.lemmas.Bool.{or_parts}
 use Rattle.names.specs.Bytes.{Bytes, same}
 use Rattle.names.specs.Name.{directory}
 use borrow.Author.Tests.{not-true}
-use Rattle.names.proofs.Tests.{and_left, and_right, or_eq, or-false, not_both}
+use Rattle.names.proofs.Tests.{and_left, and_right, or_eq, not_both}
 use Rattle.names.proofs.Orders.{same_eq}
 use Rattle.blocks.specs.Block.{block_name}
 use Rattle.blocks.specs.Entry.{blocks}
@@ -62,7 +63,7 @@ bearing_none n (b ∷ l) h = go (is_named b) h (bearing_none n l)
     go : (k : Bool) → among n (if k then block_name b ∷ names_in l else names_in l) ≡ false → (among n (names_in l) ≡ false → bearing n l ≡ [])
         → (if k && same (block_name b) n then held_by b ∷ bearing n l else bearing n l) ≡ []
     go false h ih = ih h
-    go true h ih = let f = or-false (same (block_name b) n) _ (sym (among_next n (block_name b) (names_in l)) ∙ h) in rw f.0 (ih f.1)
+    go true h ih = let f = or_parts (same (block_name b) n) _ (sym (among_next n (block_name b) (names_in l)) ∙ h) in rw f.0 (ih f.1)
 
 -- a name that no block bears
 record Absent (s : Snapshot) (n : Bytes) : Type 0 where
@@ -76,8 +77,8 @@ absent s n h =
     let w = names_in (blocks s.worktree) in
     let c = names_in (blocks (or_empty s.common)) in
     let p = names_in (blocks s.packed) in
-    let f = or-false (among n w) _ (sym (among_append n w (c ++ p)) ∙ h) in
-    let g = or-false (among n c) _ (sym (among_append n c p) ∙ f.1) in
+    let f = or_parts (among n w) _ (sym (among_append n w (c ++ p)) ∙ h) in
+    let g = or_parts (among n c) _ (sym (among_append n c p) ∙ f.1) in
     record { in_worktree = bearing_none n _ f.0; in_common = bearing_none n _ g.0; in_packed = bearing_none n _ g.1 }
 
 held_among : (s : Snapshot) (n : Bytes) → is_held s n ≡ true → among n (names_of s) ≡ true
@@ -115,7 +116,7 @@ each_by s t P l h each n = go (among n l) refl
     go : (b : Bool) → among n l ≡ b → Agree s t n ⊎ P n
     go true e = of_each (λ n. Agree s t n ⊎ P n) l each n e
     go false e =
-        let f = or-false (among n (names_of s)) _ (sym (among_append n (names_of s) (names_of t)) ∙ out _ refl e) in
+        let f = or_parts (among n (names_of s)) _ (sym (among_append n (names_of s) (names_of t)) ∙ out _ refl e) in
         let a = absent s n f.0 in
         let b = absent t n f.1 in
         inl (record { in_worktree = a.in_worktree ∙ sym b.in_worktree; in_common = a.in_common ∙ sym b.in_common; in_packed = a.in_packed ∙ sym b.in_packed })

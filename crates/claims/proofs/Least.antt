@@ -9,7 +9,7 @@ use Rattle.names.proofs.Orders.{flip, ◌≺◌, order_eq, order_flip, ≺_trans
 use Rattle.blocks.specs.Snapshot.{Store, or_empty}
 use Rattle.refs.specs.Answer.{Answer}
 use Rattle.refs.specs.View.{View}
-use Rattle.refs.specs.Listing.{Waiting, named, Offer, smaller, least, if_same, past, Positions, Move, error_else, by_name, choose}
+use Rattle.refs.specs.Listing.{Waiting, Offer, smaller, least, if_same, past, Positions, Move, error_else, by_name, choose}
 use Rattle.claims.proofs.Tables.{Table, beyond, beyond_none, Starts, Does, ends, hands}
 use Rattle.claims.proofs.Waits.{region, Waits, empty, waits}
 

@@ -5,11 +5,12 @@ use native.Mathlib.Omega.{arith}
 use mathlib.Core.List.{List, [], ◌∷◌}
 use mathlib.Core.Bool.{Bool, true, false, false≢true}
 use Rattle.std.specs.Prelude.{Option, None, Some}
+use Rattle.std.proofs.lemmas.Bool.{false_from_ne_true}
 use Rattle.names.specs.Bytes.{Bytes, same, strip}
 use Rattle.names.specs.Name.{fits}
 use Rattle.names.specs.Candidates.{Candidate, candidates}
 use Rattle.names.specs.Route.{packed_name}
-use Rattle.names.proofs.Tests.{if_case, or_eq, false_of, none≢Some}
+use Rattle.names.proofs.Tests.{if_case, or_eq, none≢Some}
 use Rattle.names.proofs.Orders.{same_eq}
 use Rattle.blocks.specs.Content.{object, symbolic, Reading, reads, unreadable, read}
 use Rattle.blocks.specs.Entry.{Entry, damaged, failed, loose, unread, packed_record}
@@ -93,4 +94,4 @@ module _ (width : ℕ) (e : Bytes) (s : Store) where
   seen_more m l p h n g = or_eq (same m n) (among n l) (sym (among_next n m l) ∙ g) (λ d. rw (← same_eq m n d) p) (λ d. h n d)
 
   pub not_seen : (n : Bytes) (l : List Bytes) → (Points width e s n → ⊥) → Seen l → among n l ≡ false
-  not_seen n l u h = false_of _ (λ i. u (h n i))
+  not_seen n l u h = false_from_ne_true _ (λ i. u (h n i))

@@ -4,7 +4,7 @@ use Prim.Native.Nat.{ℕ}
 use native.Mathlib.Omega.{arith}
 use Rattle.std.specs.Prelude.{Option, None, Some}
 use Rattle.names.specs.Bytes.{Bytes}
-use Rattle.names.specs.Check.{Check, gives, refuses, checked}
+use Rattle.names.specs.Check.{Check, gives, checked}
 use Rattle.names.specs.Namespace.{expansion, names_check}
 use Rattle.blocks.specs.Fitness.{Flaw}
 use Rattle.blocks.specs.Snapshot.{Snapshot, size_check, store, store_flaw}

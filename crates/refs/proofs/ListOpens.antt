@@ -1,5 +1,5 @@
 -- The opening: the regions' sizes, then the namespace.
-use mathlib.Core.Path.{◌≡◌, refl, sym, ◌∙◌}
+use mathlib.Core.Path.{◌≡◌, refl}
 use mathlib.Core.List.{[]}
 use Rattle.std.specs.Prelude.{Option, None, Some}
 use Prim.Native.Nat.{ℕ, ◌≤◌}
@@ -8,8 +8,8 @@ use native.Mathlib.Omega.{arith}
 use Rattle.names.specs.Bytes.{Bytes}
 use Rattle.names.specs.Name.{longest}
 use Rattle.names.specs.Check.{Check, gives, refuses, checked, ◌or_else◌}
-use Rattle.names.specs.Namespace.{expand, expansion, names_check, expanded}
-use Rattle.names.proofs.Rows.{names_none, expanded_is, expansion_fits}
+use Rattle.names.specs.Namespace.{expansion, names_check}
+use Rattle.names.proofs.Rows.{expansion_fits}
 use Rattle.blocks.specs.Snapshot.{Snapshot, size_check}
 use Rattle.refs.specs.Run.{State, start, run, open_listing, listing, answers_of}
 
@@ -18,27 +18,22 @@ module _ (s : Snapshot) where
   unfolding open_listing
   sizes_refused namespace k h = rw (← h)
 
-  module _ (right : None ≡ size_check s) where
-    pub no_namespace : gives (start []) ≡ open_listing s None
+  module _ (right : None ≡ size_check s) (namespace : Option Bytes) where
+    pub namespace_right : (e : Bytes) → gives e ≡ checked (names_check None namespace) (expansion namespace) → gives (start e) ≡ open_listing s namespace
     unfolding open_listing
-    no_namespace = rw (← right, names_none)
+    namespace_right e h = rw (← right) (go (names_check None namespace) h)
+      where
+        go : (k : Check) → gives e ≡ checked k (expansion namespace) → gives (start e) ≡ checked k (start (expansion namespace))
+        go None h = let q : e ≡ expansion namespace = cc in rw q
+        go (Some k) h = let z : ◌≡◌ {A = ℕ} 0 1 = cc in absurd (omega arith)
 
-    module _ (t : Bytes) where
-      pub namespace_right : (e : Bytes) → gives e ≡ expanded t → gives (start e) ≡ open_listing s (Some t)
-      unfolding open_listing
-      namespace_right e h = rw (← right) (go (names_check None (Some t)) (h ∙ expanded_is t))
-        where
-          go : (k : Check) → gives e ≡ checked k (expand t) → gives (start e) ≡ checked k (start (expand t))
-          go None h = let q : e ≡ expand t = cc in rw q
-          go (Some k) h = let z : ◌≡◌ {A = ℕ} 0 1 = cc in absurd (omega arith)
-
-      pub namespace_refused : (j : ℕ) → refuses j ≡ expanded t → refuses j ≡ open_listing s (Some t)
-      unfolding open_listing
-      namespace_refused j h = rw (← right) (go (names_check None (Some t)) (h ∙ expanded_is t))
-        where
-          go : (k : Check) → refuses j ≡ checked k (expand t) → refuses j ≡ checked k (start (expand t))
-          go None h = let z : ◌≡◌ {A = ℕ} 0 1 = cc in absurd (omega arith)
-          go (Some k) h = let q : j ≡ k = cc in rw q
+    pub namespace_refused : (j : ℕ) → refuses j ≡ checked (names_check None namespace) (expansion namespace) → refuses j ≡ open_listing s namespace
+    unfolding open_listing
+    namespace_refused j h = rw (← right) (go (names_check None namespace) h)
+      where
+        go : (k : Check) → refuses j ≡ checked k (expansion namespace) → refuses j ≡ checked k (start (expansion namespace))
+        go None h = let z : ◌≡◌ {A = ℕ} 0 1 = cc in absurd (omega arith)
+        go (Some k) h = let q : j ≡ k = cc in rw q
 
 -- ---- the answers of a listing
 

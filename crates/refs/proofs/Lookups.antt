@@ -2,9 +2,8 @@
 use mathlib.Core.Path.{◌≡◌, refl, sym, ◌∙◌}
 use mathlib.Core.List.{◌++◌}
 use mathlib.Core.Bool.{Bool, true, false, true≢false}
-use Rattle.std.specs.Prelude.{Option, None, Some, is_some, if◌then◌else◌}
+use Rattle.std.specs.Prelude.{Option, None, Some, is_some}
 use Rattle.names.specs.Bytes.{Bytes}
-use Rattle.names.specs.Name.{fits}
 use Rattle.names.specs.Route.{Base, at, route, packed_name}
 use Rattle.names.specs.Means.{if_fits}
 use Rattle.names.proofs.Held.{fits_is, fits_there, fits_not}

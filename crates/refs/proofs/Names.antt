@@ -1,21 +1,12 @@
 -- A name and a namespace: rows 3 and 4.
-use mathlib.Core.Path.{◌≡◌, refl}
-use mathlib.Core.Bool.{Bool, true, false, ◌&&◌}
-use Prim.Native.Nat.{◌≤◌}
-use borrow.Author.Tests.{le-leb, leb-true}
-use lib.Dec.{leb}
-use lib.ListN.{length}
+use mathlib.Core.Path.{◌≡◌}
+use mathlib.Core.Bool.{Bool, true}
+use denote.Ref.{Bor}
+use Rattle.std.specs.Prelude.{Option, None, Some, MatchOption, option_copied}
 use Rattle.names.specs.Bytes.{Bytes}
-use Rattle.names.specs.Name.{longest, fits}
+use Rattle.names.specs.Namespace.{passes_if_given}
 
-module _ (x s : Bytes) where
-  pub both_fit : length x ≤ longest → length s ≤ longest → (fits x && fits s) ≡ true
-  both_fit h k = rw (le-leb (length x) longest h, le-leb (length s) longest k)
-
-  pub not_both_fit : (length x ≤ longest → length s ≤ longest → ⊥) → (fits x && fits s) ≡ false
-  not_both_fit f = go (fits x) (fits s) (leb-true (length x) longest) (leb-true (length s) longest)
-    where
-      go : (a b : Bool) → (a ≡ true → length x ≤ longest) → (b ≡ true → length s ≤ longest) → (a && b) ≡ false
-      go true true p q = absurd (f (p refl) (q refl))
-      go true false p q = refl
-      go false b p q = refl
+-- what is asked of a namespace that is given
+pub given : (f : Bytes → Bool) (o : Option (Bor Bytes)) (r : Bool) → MatchOption o (r ≡ true) (λ n. r ≡ f n.now) → r ≡ passes_if_given f (option_copied o)
+given f None r h = h
+given f (Some n) r h = h

@@ -1,6 +1,6 @@
 -- An entry of a region and those behind it.
 use mathlib.Core.Path.{◌≡◌, refl, sym, ap, ◌∙◌}
-use Prim.Native.Nat.{ℕ, ◌+◌, ◌<◌, ◌≤◌}
+use Prim.Native.Nat.{ℕ, ◌+◌, ◌<◌}
 use mathlib.Core.List.{◌∷◌}
 use lib.ListN.{drop}
 use native.Mathlib.Omega.{arith}

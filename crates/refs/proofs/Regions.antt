@@ -1,14 +1,14 @@
 -- A region without a flaw: every block has a name, and the block of a name is found by halves.
-use mathlib.Core.Path.{◌≡◌, sym, ◌∙◌}
+use mathlib.Core.Path.{◌≡◌, refl, sym, ap, ◌∙◌}
 use Prim.Native.Nat.{Ordering}
-use Prim.Native.Nat.{ℕ, zero, suc, ◌+◌, ◌≤◌, ◌<◌}
+use Prim.Native.Nat.{ℕ, zero, suc, ◌<◌}
 use native.Mathlib.Omega.{arith}
-use mathlib.Core.List.{List, ◌∷◌}
-use mathlib.Core.Bool.{true, false, ◌||◌}
-use borrow.Author.Tests.{lt-ltb}
+use mathlib.Core.List.{List, [], ◌∷◌, map}
+use mathlib.Core.Bool.{false}
 use Rattle.std.specs.Prelude.{Option, None, Some}
+use Rattle.std.specs.List.{list_any}
 use lib.Dec.{compare_is_eq}
-use lib.ListN.{length, drop, drop_of_length-le}
+use lib.ListN.{length, drop, get_or}
 use Rattle.names.specs.Bytes.{Bytes, order}
 use Rattle.names.specs.Name.{directory}
 use Rattle.names.proofs.Orders.{◌≺◌, ≺_trans, order_refl, gt_not_lt}
@@ -18,7 +18,8 @@ use Rattle.blocks.specs.Means.{id_width, block_count, block_at, name_within, nam
 use Rattle.blocks.proofs.Sorted.{Sorted, sorted-[], sorted-∷, sorted, sorted_drop}
 use Rattle.blocks.proofs.Raw.{raw}
 use Rattle.blocks.proofs.Sound.{fit_sound}
-use Rattle.blocks.proofs.Walks.{length_entries}
+use Rattle.blocks.proofs.Chunks.{chunks, length_chunks, chunk_at, entries_are, name_of_chunk}
+use Rattle.blocks.proofs.Parts.{length_block}
 use Rattle.blocks.proofs.Entries.{entries_at, sound_name}
 use Rattle.refs.specs.Answer.{block_of}
 use Rattle.refs.specs.Search.{clashes}
@@ -32,7 +33,7 @@ Flawless r s = first_flaw r (entries id_width r s) ≡ None
 -- ---- sorted entries
 
 -- the name at a later place is above
-later_above : (z x : Bytes) {l : List Entry} → Sorted (Some z) l → (j : ℕ) (e : Entry) (m : List Entry) → drop j l ≡ e ∷ m → name_of e ≡ Some x → z ≺ x
+pub later_above : (z x : Bytes) {l : List Entry} → Sorted (Some z) l → (j : ℕ) (e : Entry) (m : List Entry) → drop j l ≡ e ∷ m → name_of e ≡ Some x → z ≺ x
 later_above z x sorted-[] zero e m d h = absurd (let q : ◌≡◌ {A = ℕ} 0 1 = cc in omega arith)
 later_above z x sorted-[] (suc j) e m d h = absurd (let q : ◌≡◌ {A = ℕ} 0 1 = cc in omega arith)
 later_above z x (sorted-∷ y k a s) zero e m d h = let q : y ≡ x = cc in rw (← q) a
@@ -90,17 +91,20 @@ module _ (r : Region) (s : Bytes) (flawless : Flawless r s) where
 
 -- ---- a walk over the names
 
-module _ (p s : Bytes) (r : Region) (f : Flawless r s) (k : ℕ) where
-  clashes_at : k < block_count s → clashes p (drop k (entries id_width r s)) ≡ (directory (name_in s k) p || clashes p (drop (k + 1) (entries id_width r s)))
-  unfolding clashes
-  clashes_at h = rw (entries_at id_width r s k h, block_named r s f k h, lt-ltb k (block_count s) h)
+-- each block bears the name that stands in it
+abbrev pub Named : Region → List Bytes → Type 0
+Named r l = (k : ℕ) (d : Bytes) → k < length l → name_of (entry id_width r (get_or l k d)) ≡ Some (name_in (get_or l k d) 0)
 
-  pub clash_here : k < block_count s → directory (name_in s k) p ≡ true → clashes p (drop k (entries id_width r s)) ≡ true
-  clash_here h d = rw (clashes_at h, d)
+any_clashes : (r : Region) (p : Bytes) (l : List Bytes) → Named r l → list_any (λ b. directory (name_in b 0) p) l ≡ clashes p (map (entry id_width r) l)
+unfolding clashes
+any_clashes r p [] h = refl
+any_clashes r p (b ∷ l) h = rw (h 0 b (omega arith), any_clashes r p l (λ k d q. h (suc k) d (omega arith)))
 
-  pub clash_next : k < block_count s → directory (name_in s k) p ≡ false → clashes p (drop k (entries id_width r s)) ≡ clashes p (drop (k + 1) (entries id_width r s))
-  clash_next h d = rw (clashes_at h, d)
+module _ (r : Region) (p s : Bytes) (flawless : Flawless r s) where
+  pub all_named : Named r (chunks s)
+  all_named k d h =
+      let q : k < block_count s = omega (arith, length_chunks s) in
+      rw (chunk_at s k d q) (block_named r s flawless k q ∙ ap Some (sym (name_of_chunk (block_at s k) (length_block s k q))))
 
-  pub clash_end : block_count s ≤ k → clashes p (drop k (entries id_width r s)) ≡ false
-  unfolding clashes
-  clash_end h = let l : length (entries id_width r s) ≤ k = omega (arith, length_entries id_width r s) in rw (drop_of_length-le (entries id_width r s) l)
+  pub clash_found : list_any (λ b. directory (name_in b 0) p) (chunks s) ≡ clashes p (entries id_width r s)
+  clash_found = any_clashes r p (chunks s) all_named ∙ rw (entries_are id_width r s)

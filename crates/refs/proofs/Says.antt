@@ -1,5 +1,5 @@
 -- What an entry says, and that its parts fit.
-use mathlib.Core.Path.{◌≡◌, refl, sym, ◌∙◌}
+use mathlib.Core.Path.{◌≡◌, refl, ◌∙◌, ap}
 use denote.Ref.{Bor}
 use mathlib.Core.List.{List}
 use mathlib.Core.Bool.{Bool, true, false, ◌&&◌}
@@ -10,7 +10,7 @@ use borrow.Author.Tests.{le-leb, leb-true, eqb-true}
 use lib.Dec.{leb}
 use lib.ListN.{length, take}
 use lib.Seq.{take_all}
-use Rattle.std.specs.Prelude.{Option, None, Some, Ok, if◌then◌else◌}
+use Rattle.std.specs.Prelude.{Option, None, Some, Ok, if◌then◌else◌, MatchOption, IsSomeAnd}
 use Rattle.std.specs.Option.{option_map}
 use Rattle.names.specs.Bytes.{Bytes, bytes, same, starts_with, strip}
 use Rattle.names.specs.Name.{longest, fits}
@@ -20,6 +20,7 @@ use Rattle.names.proofs.Tests.{and_left, and_right}
 use Rattle.blocks.specs.Layout.{longest_content}
 use Rattle.blocks.specs.Content.{Target, object, symbolic, Reading, reads, unreadable, lower_case, target_name_in, read_target, read_id, read}
 use Rattle.blocks.specs.Means.{id_width, id_in, read_as}
+use Rattle.blocks.specs.declared.parse.Id.{Id}
 use Rattle.blocks.specs.declared.decode.TargetRef.{TargetRef}
 use Rattle.blocks.specs.declared.decode.TargetRef.TheVariants as ref
 use Rattle.blocks.proofs.Contents.{target_le}
@@ -76,3 +77,12 @@ strip_fits e s h = take_all longest (strip e s) (omega (arith, strip_length e s)
 
 pub cut_stripped : (e s : Bytes) → fits s ≡ true → take longest (strip e s) ≡ strip e s
 cut_stripped e s h = strip_fits e s (leb-true (length s) longest h)
+
+-- ---- ids
+
+-- the ids of some digits
+pub ids_of : (p : Option (Bor Bytes)) (q : Option Id) → MatchOption p (q ≡ None) (λ d. IsSomeAnd q (λ i. i.digits ≡ id_in id_width d.now))
+    → option_map (λ i. i.digits) q ≡ option_map (λ d. id_in id_width d.now) p
+ids_of None q h = rw h refl
+ids_of (Some d) None h = absurd h
+ids_of (Some d) (Some i) h = ap Some h

@@ -1,9 +1,8 @@
 -- The candidates one after the other.
-use Rattle.std.specs.Prelude.{if◌then◌else◌}
 use mathlib.Core.Path.{◌≡◌, refl, sym, ap, ◌∙◌}
 use Prim.Native.Nat.{ℕ, ◌+◌, ◌<◌, ◌≤◌}
 use native.Mathlib.Numerals.{add-one}
-use mathlib.Core.List.{List, [], ◌∷◌, ◌++◌, map}
+use mathlib.Core.List.{List, [], ◌∷◌, ◌++◌}
 use mathlib.Core.Bool.{Bool, true, false, true≢false, false≢true}
 use Rattle.std.specs.Prelude.{Option, None, Some, is_some}
 use Rattle.names.specs.Bytes.{Bytes, bytes, same}
@@ -19,7 +18,7 @@ use Rattle.blocks.specs.Content.{Reading, reads, unreadable, read}
 use Rattle.blocks.specs.Snapshot.{Snapshot, store}
 use Rattle.blocks.specs.Means.{id_width}
 use Rattle.refs.specs.Answer.{Answer, nothing, found, refused, reading_says, says, strip_answer}
-use Rattle.refs.specs.Search.{answer_of, or_next, first_answer, search}
+use Rattle.refs.specs.Search.{or_next, first_answer, search}
 use Rattle.blocks.specs.Means.{entry_as}
 use Rattle.refs.specs.Promises.{looked_up, or_answer, first_of, full_names, last_answer, hit_answer}
 use Rattle.refs.specs.declared.find.Hit.{Hit}

@@ -3,7 +3,7 @@ use mathlib.Core.Path.{◌≡◌, refl, sym, ap, ◌∙◌}
 use Prim.Native.Nat.{ℕ, zero, suc, ◌+◌, ◌-◌, ◌≤◌, ◌<◌}
 use native.Mathlib.Numerals.{add-one}
 use native.Mathlib.Omega.{arith}
-use mathlib.Core.List.{List, [], ◌∷◌, ◌++◌, map}
+use mathlib.Core.List.{List, [], ◌∷◌, ◌++◌, map, map-append}
 use mathlib.Core.Bool.{Bool, true, false, ◌||◌}
 use lib.ListN.{length, take, set}
 use lib.Seq.{take-suc-set}
@@ -29,13 +29,9 @@ unfolding among
 contains_among x [] = refl
 contains_among x (y ∷ l) = rw (same_is (content y) (content x), contains_among x l)
 
-map_snoc : (l : List Name) (x : Name) → map content (l ++ (x ∷ [])) ≡ map content l ++ (content x ∷ [])
-map_snoc [] x = refl
-map_snoc (y ∷ l) x = ap (λ (m : List Bytes). content y ∷ m) (map_snoc l x)
-
 -- one more name is stored
 pub stored : (l : List Name) (n : ℕ) (x : Name) → n < length l → map content (take (n + 1) (set l n x)) ≡ map content (take n l) ++ (content x ∷ [])
-stored l n x h = rw (add-one, take-suc-set l n x h) (map_snoc (take n l) x)
+stored l n x h = rw (add-one, take-suc-set l n x h) (map-append content (take n l) (x ∷ []))
 
 -- ---- following depends on which names were seen, not on their order
 

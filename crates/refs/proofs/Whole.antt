@@ -1,8 +1,8 @@
 -- The entries of a region's blocks: no part is too long, and ids are whole.
 use mathlib.Core.Path.{◌≡◌, refl, sym, ◌∙◌}
 use mathlib.Core.Bool.{Bool, true, false, ◌&&◌}
-use mathlib.Core.Logic.{◌⊎◌, ⊎_elim}
-use Prim.Native.Nat.{ℕ, ◌+◌, ◌≤◌, ◌<◌}
+use mathlib.Core.Logic.{⊎_elim}
+use Prim.Native.Nat.{ℕ, ◌<◌}
 use native.Mathlib.Omega.{arith}
 use borrow.Author.Tests.{le-leb, eq-eqb, leb-false, ltb-true, ltb-false}
 use lib.Dec.{leb, ltb, eqb}
@@ -13,7 +13,7 @@ use Rattle.names.specs.Name.{longest}
 use Rattle.names.proofs.Tests.{none≢Some}
 use Rattle.blocks.specs.Layout.{longest_content}
 use Rattle.blocks.specs.Block.{Region, block_kind, sound}
-use Rattle.blocks.specs.Entry.{Entry, damaged, failed, loose, unread, packed_record, peeled_in, entry_of, entry}
+use Rattle.blocks.specs.Entry.{Entry, packed_record, peeled_in, entry_of, entry}
 use Rattle.blocks.specs.Means.{id_width, block_at, block_count, name_within, content_within, entry_in}
 use Rattle.blocks.proofs.Entries.{entry_there, entry_past, entry_damaged, entry_sound}
 use Rattle.blocks.proofs.Parts.{length_block, name_within_short, content_within_short}

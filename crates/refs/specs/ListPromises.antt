@@ -1,7 +1,7 @@
 -- What the private functions of the listing promise. Nobody has to believe these: the promises of the public functions do
 -- not speak of them.
-use Rattle.std.specs.Prelude.{◌≡◌, ℕ, [], Bool, true, false, if◌then◌else◌}
-use Rattle.std.specs.Prelude.{Option, None, Some, Result, is_some}
+use Rattle.std.specs.Prelude.{◌≡◌, ℕ, [], Bool, if◌then◌else◌}
+use Rattle.std.specs.Prelude.{Option, None, Some, is_some}
 use Rattle.std.specs.Option.{unwrap_or}
 use Rattle.names.specs.Bytes.{Bytes}
 use Rattle.blocks.specs.Block.{Region}
@@ -13,13 +13,7 @@ use Rattle.refs.specs.Answer.{Answer, nothing, says, strip_answer}
 use Rattle.refs.specs.View.{Seen, Scope, scope, see, worktree_shows, common_shows, packed_shows}
 use Rattle.refs.specs.Listing.{Waiting, none_left, error, named, Positions, Offer, Move, peek}
 use Rattle.blocks.specs.Means.{entry_as, region_bytes}
-use Rattle.refs.specs.Run.{Step}
-use Rattle.refs.specs.Reasons.{reason_number}
-use Rattle.refs.specs.Means.{parts_of}
-use Rattle.refs.specs.Means.{positions_of, state_at, listed}
-use Rattle.refs.specs.declared.raw.Parts.{Parts}
-use Rattle.refs.specs.declared.raw.Reason.{Reason}
-use Rattle.refs.specs.declared.overlay_iter.Cursor.{Cursor}
+use Rattle.refs.specs.Means.{positions_of}
 use Rattle.refs.specs.declared.overlay_iter.Waiting as waiting
 use Rattle.refs.specs.declared.overlay_iter.Positions as positions
 
@@ -96,9 +90,3 @@ offered (Some o) = o.answer
 -- what is handed out, and the positions after it
 abbrev pub taken : Bytes → Option waiting.Waiting → positions.Positions → Move
 taken e w at = record { answer = offered (offer_of e w); next = positions_of at }
-
--- ---- the step
-
--- what an entry answers, without e in front, and the next state
-abbrev pub gone_on : Bytes → Result (Option Parts) Reason → Cursor → Step
-gone_on e r c = record { answer = strip_answer e (listed parts_of reason_number r); next = state_at e c }

@@ -3,9 +3,8 @@ use Rattle.std.specs.Prelude.{◌≡◌, Bool, true, false, [], ℕ, drop, if◌
 use Rattle.std.specs.Prelude.{Option, None, Some, Ok, Err, List}
 use Rattle.std.specs.Prelude as std
 use Rattle.std.specs.Option.{option_map}
-use Rattle.names.specs.Bytes.{Bytes, strip}
+use Rattle.names.specs.Bytes.{Bytes}
 use Rattle.names.specs.Means.{content, number}
-use Rattle.blocks.specs.Content.{Target, object, symbolic}
 use Rattle.blocks.specs.Block.{Region}
 use Rattle.blocks.specs.Entry.{Entry}
 use Rattle.blocks.specs.Means.{id_width, id_in}
@@ -67,6 +66,11 @@ turned_back (error.Unfit u) = unfit (blocks.flaw_in u)
 abbrev pub call_gives : std.Result CheckedCall CallError → Result Bytes
 call_gives (Ok c) = answers (content c.expansion)
 call_gives (Err e) = turned_back e
+
+-- fit for search, or why not
+abbrev pub fit_gives : std.Result Unit CallError → Result Unit
+fit_gives (Ok u) = answers u
+fit_gives (Err e) = turned_back e
 
 -- what a search answers, without the number of candidates tried
 abbrev pub answer_only : Result Searched → Result Answer

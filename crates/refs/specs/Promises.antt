@@ -1,21 +1,15 @@
 -- What the private functions of search and following promise. Nobody has to believe these: the promises of the public
 -- functions do not speak of them.
-use Rattle.std.specs.Prelude.{◌≡◌, List, [], ◌∷◌, Bool, true, false, ℕ, map}
+use Rattle.std.specs.Prelude.{List, [], ◌∷◌, Bool, true, map}
 use Rattle.std.specs.Prelude.{Option, None, Some, Result, Ok, Err}
 use Rattle.names.specs.Bytes.{Bytes}
-use Rattle.names.specs.Means.{content, number}
+use Rattle.names.specs.Means.{content}
 use denote.Ref.{Bor}
 use Rattle.names.specs.Candidates.{Candidate, full_name, last_candidate}
-use Rattle.names.specs.Check.{Checked, gives, refuses}
-use Rattle.names.specs.declared.name.Name.{Name}
-use Rattle.names.specs.declared.name.Refusal.{Refusal}
-use Rattle.blocks.specs.Block.{Region}
-use Rattle.blocks.specs.Entry.{Entry}
-use Rattle.blocks.specs.Content.{object}
 use Rattle.blocks.specs.Means.{id_width}
 use Rattle.blocks.specs.Snapshot.{Snapshot, store}
 use Rattle.blocks.specs.Means.{entry_as}
-use Rattle.refs.specs.Answer.{Reference, Answer, nothing, found, refused, says}
+use Rattle.refs.specs.Answer.{Answer, nothing, found, refused}
 use Rattle.refs.specs.Search.{answer_of, lookup, first_answer}
 use Rattle.refs.specs.Follow.{Followed, barred}
 use Rattle.refs.specs.Reasons.{reason_number}
@@ -24,13 +18,6 @@ use Rattle.refs.specs.declared.raw.Reason.{Reason}
 use Rattle.refs.specs.declared.raw.Reference as code
 use Rattle.refs.specs.declared.raw_ext.Trail.{Trail}
 use Rattle.refs.specs.declared.find.Hit.{Hit}
-
--- ---- the checks
-
--- the expansion, or 3 to 5
-abbrev pub names_checked : Result Name Refusal → Checked Bytes
-names_checked (Ok n) = gives (content n)
-names_checked (Err why) = refuses (number why)
 
 -- ---- search
 

@@ -1,13 +1,11 @@
 // A snapshot that is fit for search, and its regions.
 ghost use Rattle.std.specs.Prelude.{◌≡◌, true, None, Some, IfOk, IfErr};
 ghost use Rattle.std.specs.Option.{option_map};
-ghost use Rattle.names.specs.Bytes.{Bytes};
 ghost use Rattle.names.specs.Means.{base_of, path};
-ghost use Rattle.names.specs.Route.{own, shared};
 ghost use Rattle.blocks.specs.Entry.{entries};
 ghost use Rattle.blocks.specs.Fitness.{first_flaw};
 ghost use Rattle.blocks.specs.Snapshot.{region_at, store, store_flaw};
-ghost use Rattle.blocks.specs.Means.{id_width, region_of, snapshot_of, flaw_in, entry_as};
+ghost use Rattle.blocks.specs.Means.{id_width, region_of, region_bytes, snapshot_of, flaw_in, entry_as};
 ghost use Rattle.refs.specs.Answer.{block_of};
 ghost use Rattle.refs.specs.Search.{clashes};
 ghost use Rattle.refs.specs.Whole.{entry_within, indexed};
@@ -17,7 +15,6 @@ use blocks::fitness::{Unfit, fitness};
 use blocks::snapshot::Snapshot;
 use names::bytes::Joined;
 use names::find::Base;
-use std::cmp::Ordering;
 
 // The entry of a block. Its name and content are no longer than a block's, and its ids are whole.
 #[derive(Clone, Copy)]
@@ -36,21 +33,13 @@ pub(crate) struct FitRegion<'a> {
 
 impl<'a> FitRegion<'a> {
     // The number of the block that bears the name: by halves, since names rise.
-    // Kept: the new form is no plainer: the library's search by halves wants a slice of elements, and blocks are parts of one text.
     fn position(self, name: Joined) -> Option<usize>
         ensures { indexed result (entries id_width (region_of self.entry.region) self.entry.blocks.now) ≡ block_of (path name.entry) (entries id_width (region_of self.entry.region) self.entry.blocks.now) }
     {
-        let mut lo: usize = 0;
-        let mut hi: usize = self.blocks.len() / BLOCK_SIZE;
-        while lo < hi {
-            let mid = lo + (hi - lo) / 2;
-            match name.compare(block_name(self.blocks, mid)) {
-                Ordering::Less => lo = mid + 1,
-                Ordering::Equal => return Some(mid),
-                Ordering::Greater => hi = mid,
-            }
-        }
-        None
+        let (blocks, _) = self.blocks.as_chunks::<BLOCK_SIZE>();
+        // b is a region of one block.
+        let found = blocks.binary_search_by(|b| name.compare(block_name(b, 0)));
+        found.ok()
     }
 
     // The entry that bears the name.
@@ -66,12 +55,8 @@ impl<'a> FitRegion<'a> {
     pub(crate) fn has_clash(self, name: Joined) -> bool
         ensures { result ≡ clashes (path name.entry) (entries id_width (region_of self.entry.region) self.entry.blocks.now) }
     {
-        for k in 0..self.blocks.len() / BLOCK_SIZE {
-            if name.directory(block_name(self.blocks, k)) {
-                return true;
-            }
-        }
-        false
+        let (blocks, _) = self.blocks.as_chunks::<BLOCK_SIZE>();
+        blocks.iter().any(|b| name.directory(block_name(b, 0)))
     }
 }
 
@@ -92,44 +77,23 @@ impl<'a> FitSnapshot<'a> {
         Ok(FitSnapshot { snapshot })
     }
 
-    // The loose region of a base.
+    // The loose region of a base. Without a common region the worktree's plays its part.
     pub(crate) fn loose(self, base: Base) -> FitRegion<'a>
         ensures { entries id_width (region_of result.region) result.blocks.now ≡ region_at (base_of base) (store id_width (snapshot_of self.entry.snapshot)) }
     {
-        match base {
-            Base::Own => self.own(),
-            Base::Shared => self.shared(),
+        match (base, self.snapshot.common) {
+            (Base::Shared, Some(_)) => self.region(Region::Common),
+            _ => self.region(Region::Worktree),
         }
     }
 
-    fn own(self) -> FitRegion<'a>
-        ensures { entries id_width (region_of result.region) result.blocks.now ≡ region_at own (store id_width (snapshot_of self.entry.snapshot)) }
+    #[tactic(auto, using(crate::proofs::FitRegions::region_fit))]
+    pub(crate) fn region(self, region: Region) -> FitRegion<'a>
+        ensures { (result.region ≡ region) × (result.blocks.now ≡ region_bytes (snapshot_of self.entry.snapshot) (region_of region)) }
     {
         FitRegion {
-            region: Region::Worktree,
-            blocks: self.snapshot.worktree,
-        }
-    }
-
-    // Without a common region the worktree's plays its part.
-    fn shared(self) -> FitRegion<'a>
-        ensures { entries id_width (region_of result.region) result.blocks.now ≡ region_at shared (store id_width (snapshot_of self.entry.snapshot)) }
-    {
-        let Some(blocks) = self.snapshot.common else {
-            return self.own();
-        };
-        FitRegion {
-            region: Region::Common,
-            blocks,
-        }
-    }
-
-    pub(crate) fn packed(self) -> FitRegion<'a>
-        ensures { entries id_width (region_of result.region) result.blocks.now ≡ (store id_width (snapshot_of self.entry.snapshot)).packed }
-    {
-        FitRegion {
-            region: Region::Packed,
-            blocks: self.snapshot.packed,
+            region,
+            blocks: self.snapshot.region(region),
         }
     }
 }

@@ -3,14 +3,14 @@ ghost use Rattle.std.specs.Prelude.{◌≡◌, suc, ◌<◌, ◌≤◌, length, 
 ghost use Rattle.std.specs.Option.{option_or};
 ghost use Rattle.names.specs.Bytes.{Bytes, starts_with};
 ghost use Rattle.names.specs.Name.{longest};
-ghost use Rattle.blocks.specs.Entry.{entry, entries};
+ghost use Rattle.blocks.specs.Entry.{entry};
 ghost use Rattle.blocks.specs.Snapshot.{store};
 ghost use Rattle.blocks.specs.Means.{id_width, region_of, block_count, block_at, snapshot_of, entry_as};
 ghost use Rattle.refs.specs.View.{scope, view};
 ghost use Rattle.refs.specs.Listing.{none_left, first_seen, peek, least, past, move};
 ghost use Rattle.refs.specs.Run.{open_listing, moved, step};
 ghost use Rattle.refs.specs.Means.{positions_of, state_at, state_of, open_number, opened, step_number, advanced, step_of};
-ghost use Rattle.refs.specs.ListPromises.{shows_in, seen_in, own_name, waiting_of, error_of, offer_of, taken, StandsIn, position_in, moved_in, waits_in, gone_on};
+ghost use Rattle.refs.specs.ListPromises.{shows_in, seen_in, own_name, waiting_of, error_of, offer_of, taken, StandsIn, position_in, moved_in, waits_in};
 
 use crate::fit::BlockEntry;
 use crate::raw::{Parts, Reason, Reference};
@@ -20,7 +20,7 @@ use blocks::snapshot::Snapshot;
 use names::bytes::{compare, equal, starts_with};
 use names::fullname::is_private;
 use names::name::{Name, Refusal};
-use names::namespace::expand;
+use names::namespace::expansion_of;
 use names::validate::well_formed;
 use std::cmp::Ordering;
 
@@ -40,11 +40,7 @@ fn shows(region: Region, n: &[u8], e: &[u8]) -> bool
 fn loose_begins(n: &[u8], e: &[u8]) -> bool
     ensures { result ≡ starts_with (scope e.now).loose_under n.now }
 {
-    if e.is_empty() {
-        starts_with(n, b"refs/")
-    } else {
-        starts_with(n, e)
-    }
+    starts_with(n, if e.is_empty() { b"refs/" } else { e })
 }
 
 // What waits in a region: an entry, which is an error or bears a name, and the position just past it.
@@ -57,8 +53,8 @@ struct Waiting<'a> {
 
 impl<'a> Waiting<'a> {
     // Its name, empty for an error.
-    fn name(self) -> &'a [u8]
-        ensures is { result.now ≡ own_name (entry_as self.entry.found.entry) }
+    fn name(&self) -> &'a [u8]
+        ensures is { result.now ≡ own_name (entry_as self.now.found.entry) }
         ensures short { length result.now ≤ longest }
     {
         self.found.entry.name().unwrap_or(&[])
@@ -85,19 +81,19 @@ fn look<'a>(s: &'a [u8], region: Region, e: &[u8], k: usize) -> Option<Waiting<'
 }
 
 // The error that waits, if one does.
-fn error<'a>(w: Option<Waiting<'a>>) -> Option<Waiting<'a>>
-    ensures { result ≡ error_of w.entry }
+fn error<'w, 'a>(w: Option<&'w Waiting<'a>>) -> Option<&'w Waiting<'a>>
+    ensures { option_copied result ≡ error_of (option_copied w.entry) }
 {
-    match w {
-        Some(x) if x.found.entry.name().is_none() => w,
-        _ => None,
-    }
+    w.filter(|x| x.found.entry.name().is_none())
 }
 
 // The lesser of two names that wait, the first where they are equal.
-fn least<'a>(first: Option<Waiting<'a>>, second: Option<Waiting<'a>>) -> Option<Waiting<'a>>
-    requires { error_of first ≡ None }
-    ensures { (e : Bytes) → offer_of e result ≡ least (waiting_of e first.entry) (offer_of e second.entry) }
+fn least<'w, 'a>(
+    first: Option<&'w Waiting<'a>>,
+    second: Option<&'w Waiting<'a>>,
+) -> Option<&'w Waiting<'a>>
+    requires { error_of (option_copied first) ≡ None }
+    ensures { (e : Bytes) → offer_of e (option_copied result) ≡ least (waiting_of e (option_copied first.entry)) (offer_of e (option_copied second.entry)) }
 {
     let Some(a) = first else { return second };
     let Some(b) = second else { return first };
@@ -108,9 +104,9 @@ fn least<'a>(first: Option<Waiting<'a>>, second: Option<Waiting<'a>>) -> Option<
 }
 
 // The position of a region after the name n was handed out: past what waits there, if that bears it.
-fn past(n: &[u8], w: Option<Waiting<'_>>, at: usize) -> usize
-    requires { error_of w ≡ None }
-    ensures { (e : Bytes) → result ≡ past n.now (waiting_of e w.entry) at }
+fn past(n: &[u8], w: Option<&Waiting<'_>>, at: usize) -> usize
+    requires { error_of (option_copied w) ≡ None }
+    ensures { (e : Bytes) → result ≡ past n.now (waiting_of e (option_copied w.entry)) at }
 {
     match w {
         Some(x) if equal(n, x.name()) => x.next,
@@ -119,6 +115,7 @@ fn past(n: &[u8], w: Option<Waiting<'_>>, at: usize) -> usize
 }
 
 // Where the next block of each region is looked for.
+// Kept: the shape of Sizes, but no size is a position: one generic type of three would say neither, and share one match of three arms.
 #[derive(Clone, Copy, Debug, PartialEq, Eq)]
 pub struct Positions {
     pub worktree: usize,
@@ -153,31 +150,31 @@ impl Positions {
     }
 
     // What waits in a region from its position on, which may lie past its end.
+    // Kept: e beside the snapshot, here and below: advance alone would make a struct of what C lends, and go_on, take and peek would take it apart.
     fn peek<'a>(self, s: Snapshot<'a>, region: Region, e: &[u8]) -> Option<Waiting<'a>>
         ensures waits { waiting_of e.now result ≡ waits_in (region_of region) e.now (snapshot_of s.entry) (positions_of self) }
         ensures stands { StandsIn region result }
     {
         let blocks = s.region(region);
         let from = self.at(region);
-        for k in from..blocks.len() / BLOCK_SIZE {
-            let w = look(blocks, region, e, k);
-            if w.is_some() {
-                return w;
-            }
-        }
-        None
+        (from..blocks.len() / BLOCK_SIZE).find_map(
+            |k|
+                requires { k < block_count blocks.now }
+            { look(blocks, region, e, k) },
+        )
     }
 
     // Hands out what comes next, and moves past it: an error alone; else the least name, in every region where it waits.
     fn take<'a>(&mut self, s: Snapshot<'a>, e: &[u8]) -> Option<Waiting<'a>>
         ensures { taken e.now result self.new ≡ move (view id_width (scope e.now)) (store id_width (snapshot_of s.entry)) (positions_of self.old) }
     {
-        let w = self.peek(s, Region::Worktree, e);
-        let c = self.peek(s, Region::Common, e);
-        let p = self.peek(s, Region::Packed, e);
+        let worktree = self.peek(s, Region::Worktree, e);
+        let common = self.peek(s, Region::Common, e);
+        let packed = self.peek(s, Region::Packed, e);
+        let (w, c, p) = (worktree.as_ref(), common.as_ref(), packed.as_ref());
         if let Some(x) = first_error(w, c, p) {
             *self = self.with(x.region, x.next);
-            return Some(x);
+            return Some(*x);
         }
         let x = least(w, least(c, p))?;
         let n = x.name();
@@ -186,22 +183,23 @@ impl Positions {
             common: past(n, c, self.common),
             packed: past(n, p, self.packed),
         };
-        Some(x)
+        Some(*x)
     }
 }
 
 // The error that comes before the others and before names: packed, then common, then worktree.
-fn first_error<'a>(
-    w: Option<Waiting<'a>>,
-    c: Option<Waiting<'a>>,
-    p: Option<Waiting<'a>>,
-) -> Option<Waiting<'a>>
-    ensures { result ≡ option_or (option_or (error_of p.entry) (error_of c.entry)) (error_of w.entry) }
+fn first_error<'w, 'a>(
+    w: Option<&'w Waiting<'a>>,
+    c: Option<&'w Waiting<'a>>,
+    p: Option<&'w Waiting<'a>>,
+) -> Option<&'w Waiting<'a>>
+    ensures { option_copied result ≡ option_or (option_or (error_of (option_copied p.entry)) (error_of (option_copied c.entry))) (error_of (option_copied w.entry)) }
 {
     error(p).or(error(c)).or(error(w))
 }
 
 // Why a listing is not opened: 1 and 2 for the regions, 3 to 5 for the namespace.
+// Kept: one generic enum with StepError can't have From of its second error, which overlaps From<SizeError>, and its variants would lose their names.
 #[derive(Clone, Copy, Debug, PartialEq, Eq)]
 pub enum OpenError {
     Sizes(SizeError),
@@ -280,6 +278,7 @@ impl From<StepError> for u32 {
 }
 
 // Where a listing stands: its positions, and whether it is ended.
+// Kept: a flag, since an ended listing keeps its positions, as the definition's state and C's do: an enum would hold them twice.
 #[derive(Clone, Copy, Debug, PartialEq, Eq)]
 pub struct Cursor {
     pub at: Positions,
@@ -297,13 +296,13 @@ impl Cursor {
         if self.ended {
             return Ok(None);
         }
-        Ok(self.go_on(s, e)?)
+        self.go_on(s, e)
     }
 
     // The same in regions of right sizes, where the listing is not ended. An error is handed out as an entry is.
-    fn go_on<'a>(&mut self, s: Snapshot<'a>, e: &[u8]) -> Result<Option<Parts<'a>>, Reason>
+    fn go_on<'a>(&mut self, s: Snapshot<'a>, e: &[u8]) -> Result<Option<Parts<'a>>, StepError>
         requires { self.old.ended ≡ false }
-        ensures { gone_on e.now result self.new ≡ moved (state_at e.now self.old) (move (view id_width (scope e.now)) (store id_width (snapshot_of s.entry)) (positions_of self.old.at)) }
+        ensures { advanced e.now result self.new ≡ moved (state_at e.now self.old) (move (view id_width (scope e.now)) (store id_width (snapshot_of s.entry)) (positions_of self.old.at)) }
     {
         let Some(x) = self.at.take(s, e) else {
             self.ended = true;
@@ -323,15 +322,12 @@ pub struct Listing {
 
 impl Listing {
     // A listing in a namespace or in none, at each region's first block. The regions are checked before the namespace.
-    #[tactic(auto, using(crate::proofs::ListOpens::sizes_refused, crate::proofs::ListOpens::no_namespace, crate::proofs::ListOpens::namespace_right, crate::proofs::ListOpens::namespace_refused))]
+    #[tactic(auto, using(crate::proofs::ListOpens::sizes_refused, crate::proofs::ListOpens::namespace_right, crate::proofs::ListOpens::namespace_refused))]
     pub fn open(snapshot: Snapshot<'_>, namespace: Option<&[u8]>) -> Result<Listing, OpenError>
         ensures { opened result ≡ open_listing (snapshot_of snapshot.entry) (option_copied namespace.entry) }
     {
         size_check(snapshot)?;
-        let expansion = match namespace {
-            Some(n) => expand(n)?.0,
-            None => Name::empty(),
-        };
+        let expansion = expansion_of(namespace)?;
         let at = Positions {
             worktree: 0,
             common: 0,

@@ -7,6 +7,7 @@ ghost use Rattle.refs.specs.Means.{record_in, records_of};
 
 use blocks::block::{Entry, Region, entry_at};
 
+// Kept: a position of its own, which may lie past the end, as the definition's reader has one: std's iterators have none.
 #[derive(Clone, Copy)]
 pub struct PackedReader<'a> {
     pub region: &'a [u8],
@@ -31,10 +32,7 @@ impl<'a> PackedReader<'a> {
     pub fn moved(self, at: usize) -> PackedReader<'a>
         ensures { (result.region ≡ self.entry.region) × (result.at ≡ at) }
     {
-        PackedReader {
-            region: self.region,
-            at,
-        }
+        PackedReader { at, ..self }
     }
 }
 
@@ -46,8 +44,7 @@ impl<'a> Iterator for PackedReader<'a> {
     ghost remaining = { item_count records_of };
 
     fn next(&mut self) -> Option<Entry<'a>> {
-        let region = self.region;
-        let found = entry_at(region, Region::Packed, self.at)?;
+        let found = self.peek()?;
         self.at += 1;
         Some(found)
     }

@@ -1,8 +1,7 @@
 // References and what an entry answers (raw.rs).
 ghost use Rattle.std.specs.Prelude.{◌≡◌, ◌≤◌, length, true};
-ghost use Rattle.std.specs.Option.{option_map};
 ghost use Rattle.names.specs.Name.{longest};
-ghost use Rattle.blocks.specs.Means.{id_width, id_in, entry_as, refusal_number};
+ghost use Rattle.blocks.specs.Means.{id_width, entry_as};
 ghost use Rattle.refs.specs.Whole.{target_in, target_of, target_fits};
 ghost use Rattle.refs.specs.Answer.{says, strip_target, strip_reference};
 ghost use Rattle.refs.specs.Reasons.{reason_number};
@@ -15,14 +14,13 @@ use names::bytes::without;
 use names::name::Name;
 
 // Why an entry is refused: 6 and 7, 9 to 12.
+// Kept: Damaged and ErrorKind are blocks' too: that enum's NotAbove is no answer of an entry, and Content holds a number of its own.
 #[derive(Debug, Clone, Copy, PartialEq, Eq)]
 pub enum Reason {
     Damaged,
     ErrorKind,
     Unread,
-    Unreadable,
-    Incomplete,
-    Unsupported,
+    Content(Refusal),
 }
 
 // The number of a reason in document 01's table.
@@ -34,22 +32,18 @@ impl From<Reason> for u32 {
             Reason::Damaged => 6,
             Reason::ErrorKind => 7,
             Reason::Unread => 9,
-            Reason::Unreadable => 10,
-            Reason::Incomplete => 11,
-            Reason::Unsupported => 12,
+            Reason::Content(refusal) => refusal.into(),
         }
     }
 }
 
 impl From<Refusal> for Reason {
-    ghost from_gives = { λ why r. reason_number r ≡ refusal_number why };
+    ghost use Rattle.refs.specs.declared.raw.Reason.TheVariants.{Content};
+
+    ghost from_gives = { λ why r. r ≡ Content why };
 
     fn from(why: Refusal) -> Reason {
-        match why {
-            Refusal::Unreadable => Reason::Unreadable,
-            Refusal::Incomplete => Reason::Incomplete,
-            Refusal::Unsupported => Reason::Unsupported,
-        }
+        Reason::Content(why)
     }
 }
 
@@ -113,12 +107,6 @@ fn target_without(target: TargetRef, e: &[u8]) -> Target
     }
 }
 
-fn id_if_given(digits: Option<&[u8]>) -> Option<Id>
-    ensures { option_map (λ i. i.digits) result ≡ option_map (λ d. id_in id_width d.now) digits.entry }
-{
-    digits.map(id_of)
-}
-
 impl<'a> Parts<'a> {
     ghost use Rattle.refs.specs.Means.{parts_of, reference_of};
 
@@ -130,7 +118,7 @@ impl<'a> Parts<'a> {
         Reference {
             name: Name::cut(without(self.name, e)),
             target: target_without(self.target, e),
-            peeled: id_if_given(self.peeled),
+            peeled: self.peeled.map(id_of),
         }
     }
 }

@@ -1,6 +1,6 @@
 // Following (raw_ext.rs).
-ghost use Rattle.std.specs.Prelude.{◌≡◌, []};
-ghost use Rattle.std.specs.Option.{option_map};
+ghost use Rattle.std.specs.Prelude.{◌≡◌, [], option_copied};
+ghost use Rattle.names.specs.Means.{content};
 ghost use Rattle.blocks.specs.Snapshot.{store};
 ghost use Rattle.blocks.specs.Means.{id_width, snapshot_of};
 ghost use Rattle.refs.specs.Follow.{follow, follow_from, max_ref_depth};
@@ -8,9 +8,8 @@ ghost use Rattle.refs.specs.Reasons.{stop_number};
 ghost use Rattle.refs.specs.Means.{reference_of, followed_of};
 ghost use Rattle.refs.specs.Promises.{ended};
 
-use crate::check::check_call;
-use crate::find::{FindError, find_one_with_verified_input};
-use crate::fit::FitSnapshot;
+use crate::check::{CheckedCall, check_call};
+use crate::find::FindError;
 use crate::raw::{Reason, Reference};
 use blocks::decode::Target;
 use blocks::parse::Id;
@@ -23,9 +22,9 @@ pub const MAX_REF_DEPTH: usize = 5;
 // Why following stops before an object: 13, 14 and 15.
 #[derive(Debug, Clone, Copy, PartialEq, Eq)]
 pub enum Stop {
-    NotFound,
-    Cycle,
-    TooDeep,
+    NotFound = 13,
+    Cycle = 14,
+    TooDeep = 15,
 }
 
 // The number of a stop in document 01's table.
@@ -33,11 +32,7 @@ impl From<Stop> for u32 {
     ghost from_gives = { λ why n. n ≡ stop_number why };
 
     fn from(why: Stop) -> u32 {
-        match why {
-            Stop::NotFound => 13,
-            Stop::Cycle => 14,
-            Stop::TooDeep => 15,
-        }
+        why as u32
     }
 }
 
@@ -48,39 +43,42 @@ pub struct Trail {
     pub end: Result<Id, Stop>,
 }
 
-// Following from a reference, which does not count as seen; each target is searched as a partial name again, unchecked.
-fn follow_from(s: FitSnapshot, e: &[u8], first: Reference) -> Result<Trail, Reason>
-    ensures { ended result ≡ follow_from id_width e.now (store id_width (snapshot_of s.entry.snapshot)) max_ref_depth [] (reference_of first) }
-{
-    let mut seen = [Name::empty(); MAX_REF_DEPTH];
-    let mut last = first;
-    for n in 0..MAX_REF_DEPTH {
-        let target = match &last.target {
-            Target::Object(id) => {
-                return Ok(Trail { last, end: Ok(*id) });
+impl CheckedCall<'_> {
+    // Following from a reference, which does not count as seen; each target is searched as a partial name again, unchecked.
+    // Kept: `seen` with its length n: an `ArrayVec` would ask `Default` of `Name` and bring one crate more into the C archive.
+    fn follow_from(&self, first: Reference) -> Result<Trail, Reason>
+        ensures { ended result ≡ follow_from id_width (content self.now.expansion) (store id_width (snapshot_of self.now.snapshot.snapshot)) max_ref_depth [] (reference_of first) }
+    {
+        let mut seen = [Name::empty(); MAX_REF_DEPTH];
+        let mut last = first;
+        for n in 0..MAX_REF_DEPTH {
+            let target = match &last.target {
+                Target::Object(id) => {
+                    return Ok(Trail { last, end: Ok(*id) });
+                }
+                Target::Symbolic(name) => name.as_bytes(),
+            };
+            let Some(hit) = self.find_one_with_verified_input(target) else {
+                return Ok(Trail {
+                    last,
+                    end: Err(Stop::NotFound),
+                });
+            };
+            let next = self.reference(&hit)?;
+            if seen[..n].contains(&next.name) {
+                return Ok(Trail {
+                    last,
+                    end: Err(Stop::Cycle),
+                });
             }
-            Target::Symbolic(name) => name.as_bytes(),
-        };
-        let Some(hit) = find_one_with_verified_input(s, e, target) else {
-            return Ok(Trail {
-                last,
-                end: Err(Stop::NotFound),
-            });
-        };
-        let next = hit.reference(e)?;
-        if seen[..n].contains(&next.name) {
-            return Ok(Trail {
-                last,
-                end: Err(Stop::Cycle),
-            });
+            seen[n] = next.name;
+            last = next;
         }
-        seen[n] = next.name;
-        last = next;
+        Ok(Trail {
+            last,
+            end: Err(Stop::TooDeep),
+        })
     }
-    Ok(Trail {
-        last,
-        end: Err(Stop::TooDeep),
-    })
 }
 
 // Follow a partial name to its object, in a namespace or in none: refused 1 to 12, not there, or how far it leads.
@@ -89,13 +87,12 @@ pub fn follow(
     name: &[u8],
     namespace: Option<&[u8]>,
 ) -> Result<Option<Trail>, FindError>
-    ensures { followed_of result ≡ follow id_width (snapshot_of snapshot.entry) name.now (option_map (λ s. s.now) namespace.entry) }
+    ensures { followed_of result ≡ follow id_width (snapshot_of snapshot.entry) name.now (option_copied namespace.entry) }
 {
     let call = check_call(snapshot, name, namespace)?;
-    let e = call.expansion.as_bytes();
-    let Some(hit) = find_one_with_verified_input(call.snapshot, e, name) else {
+    let Some(hit) = call.find_one_with_verified_input(name) else {
         return Ok(None);
     };
-    let first = hit.reference(e)?;
-    Ok(Some(follow_from(call.snapshot, e, first)?))
+    let first = call.reference(&hit)?;
+    Ok(Some(call.follow_from(first)?))
 }

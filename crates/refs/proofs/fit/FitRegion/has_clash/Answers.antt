@@ -1,25 +1,17 @@
-use mathlib.Core.Path.{refl, sym, ◌∙◌}
-use native.Mathlib.Omega.{arith}
-use Rattle.blocks.specs.Means.{region_of}
+use mathlib.Core.Path.{◌∙◌}
+use Rattle.std.proofs.Common.{rules}
+use Rattle.std.proofs.lemmas.Iterator.{YieldsList-from_slice}
+use Rattle.std.proofs.lemmas.Iterator.Search.{any_from_yields_List}
+use Rattle.names.specs.Name.{directory}
 use Rattle.names.specs.Means.{path}
-use Rattle.refs.proofs.Regions.{clash_here, clash_next, clash_end}
+use Rattle.blocks.specs.Means.{region_of, name_in}
+use Rattle.blocks.proofs.Chunks.{chunks}
+use Rattle.refs.proofs.Regions.{clash_found}
 use Rattle.refs.proofs.fit.FitRegion.has_clash.Goals as goal
-
-pub loop-k-init : goal.loop-k-init
-loop-k-init c = refl
-
-pub returns-then-directory : goal.returns-then-directory
-returns-then-directory c =
-    let self = c.args.self in
-    sym
-    (c.loop-k.invariant ∙ clash_here (path c.args.name) self.blocks.now (region_of self.region) self.flawless c.loop-k.k (omega arith) (sym (rw c.block_name.ensures at c.directory.ensures) ∙ c.if-directory.true))
-
-pub loop-k-preserved : goal.loop-k-preserved
-loop-k-preserved c =
-    let self = c.args.self in
-    c.loop-k.invariant ∙ clash_next (path c.args.name) self.blocks.now (region_of self.region) self.flawless c.loop-k.k (omega arith) (sym (rw c.block_name.ensures at c.directory.ensures) ∙ c.if-directory.false)
 
 pub returns : goal.returns
 returns c =
     let self = c.args.self in
-    sym (c.loop-k.invariant ∙ clash_end (path c.args.name) self.blocks.now (region_of self.region) self.flawless c.loop-k.k (omega arith))
+    let p = path c.args.name in
+    any_from_yields_List (λ b. directory (name_in b 0) p) _ _ _ c.any.ensures.ran (YieldsList-from_slice (chunks self.blocks.now) cc) (λ x b q k. search rules)
+    ∙ clash_found (region_of self.region) p self.blocks.now self.flawless
