@@ -4,6 +4,7 @@ use Prim.Native.Nat.{ℕ, zero, suc, ◌+◌, ◌-◌, ◌≤◌, ◌/◌}
 use native.Mathlib.Omega.{arith}
 use mathlib.Core.List.{[], ◌∷◌, ◌++◌}
 use lib.ListN.{length, take, drop, replicate, length-take, length-append, length-replicate}
+use Rattle.std.proofs.lemmas.List.{take-replicate}
 use Rattle.names.specs.Bytes.{Bytes}
 use Rattle.names.specs.Means.{held}
 use Rattle.names.proofs.Parts.{held_is}
@@ -25,20 +26,15 @@ padded_length width s = simp (length-take, length-append, length-replicate) (ome
 
 -- ---- texts in fields
 
-take_zeros : (n m : ℕ) → n ≤ m → take {A = ℕ} n (replicate m 0) ≡ replicate n 0
-take_zeros zero m h = refl
-take_zeros (suc n) zero h = absurd (omega (arith, h))
-take_zeros (suc n) (suc m) h = ap (λ (l : Bytes). 0 ∷ l) (take_zeros n m (omega (arith, h)))
-
 -- its first bytes, over zeros
 over_zeros : (width m : ℕ) (s : Bytes) → width ≤ m + length s → take width s ++ drop (length (take width s)) (replicate width 0) ≡ take width (s ++ replicate m 0)
 over_zeros zero m s h = refl
-over_zeros (suc width) m [] h = sym (take_zeros (suc width) m (omega (arith, h)))
+over_zeros (suc width) m [] h = sym (take-replicate (suc width) m 0 (omega (arith, h)))
 over_zeros (suc width) m (x ∷ s) h = ap (λ (l : Bytes). x ∷ l) (over_zeros width m s (omega (arith, h)))
 
 -- a text that fits, and zeros behind it
 zeros_behind : (width m : ℕ) (s : Bytes) → length s ≤ width → width ≤ m + length s → s ++ replicate (width - length s) 0 ≡ take width (s ++ replicate m 0)
-zeros_behind width m [] h k = let e : width - 0 ≡ width = omega arith in rw e (sym (take_zeros width m (omega (arith, k))))
+zeros_behind width m [] h k = let e : width - 0 ≡ width = omega arith in rw e (sym (take-replicate width m 0 (omega (arith, k))))
 zeros_behind zero m (x ∷ s) h k = absurd (omega (arith, h))
 zeros_behind (suc width) m (x ∷ s) h k =
     let e : suc width - suc (length s) ≡ width - length s = omega arith in

@@ -1,16 +1,15 @@
 -- Records, field by field.
-use Rattle.std.specs.Prelude.{Option, None, Some, is_some, MatchOption, IsSomeAnd}
+use Rattle.std.specs.Prelude.{Option, None, Some, is_some}
 use Rattle.std.specs.Option.{option_map}
 use Rattle.std.specs.Int.{from_bool}
-use mathlib.Core.Path.{◌≡◌, refl, ap}
+use mathlib.Core.Path.{◌≡◌, refl}
 use Prim.Native.Nat.{ℕ, ◌+◌, ◌*◌}
 use native.Mathlib.Omega.{arith}
 use mathlib.Core.List.{◌++◌}
 use lib.ListN.{length, length-append}
-use denote.Bor.{Bor}
 use Rattle.names.specs.Bytes.{Bytes}
 use Rattle.names.specs.Name.{longest}
-use Rattle.blocks.specs.Means.{id_width, id_in}
+use Rattle.blocks.specs.Means.{id_width}
 use Rattle.blocks.specs.declared.parse.Id.{Id}
 use Rattle.capi.specs.declared.report.Shown.{Shown}
 use Rattle.capi.specs.Report.{Report}
@@ -53,13 +52,6 @@ wrote_texts i j k l x y n t p q r s u =
 peeled_there : (p : Option Id) → from_bool (is_some p) ≡ peeled_bit (option_map (λ i. i.digits) p)
 peeled_there None = refl
 peeled_there (Some i) = refl
-
--- the ids of some digits
-pub ids_of : (p : Option (Bor Bytes)) (q : Option Id) → MatchOption p (q ≡ None) (λ d. IsSomeAnd q (λ i. i.digits ≡ id_in id_width d.now))
-    → option_map (λ i. i.digits) q ≡ option_map (λ d. id_in id_width d.now) p
-ids_of None q h = rw h refl
-ids_of (Some d) None h = absurd h
-ids_of (Some d) (Some i) h = ap Some h
 
 -- a reference, by its parts
 pub wrote_reference : (r : Shown) {b m n o p d e f a : Bytes}

@@ -5,6 +5,8 @@ use Rattle.names.specs.Bytes.{Bytes}
 use Rattle.names.specs.Name.{longest}
 use Rattle.blocks.specs.Content.{Target, object, symbolic}
 use Rattle.blocks.specs.Means.{id_width}
+-- a text in a field of so many bytes, zeros behind it
+unfoldable pub use Rattle.blocks.specs.Means.{padded}
 use Rattle.refs.specs.Answer.{Reference}
 use Rattle.refs.specs.Listing.{Positions}
 use Rattle.refs.specs.Run.{State}
@@ -28,10 +30,6 @@ word_size = 8
 
 abbrev pub word : ℕ → Bytes
 word n = low_first word_size n
-
--- a text in a field of so many bytes, zeros behind it
-unfoldable pub padded : ℕ → Bytes → Bytes
-padded width s = take width (s ++ replicate width 0)
 
 -- 1 or 0
 abbrev pub bit : Bool → ℕ

@@ -1,7 +1,6 @@
 -- What private functions promise.
 use Rattle.std.specs.Prelude.{◌≡◌, ℕ}
-use Rattle.std.specs.Prelude.{Option, None, Some, Ok, Err}
-use Rattle.std.specs.Prelude as std
+use Rattle.std.specs.Prelude.{None, Some}
 use Rattle.std.specs.Option.{option_map}
 use Rattle.names.specs.Bytes.{Bytes}
 use Rattle.blocks.specs.Content.{Target, object, symbolic}
@@ -57,11 +56,6 @@ turned_report e = result_report passed_report (turned_back e)
 abbrev pub refused_report : FindError → Report
 refused_report (Call e) = turned_report e
 refused_report (Entry why) = report (reason_number why) None
-
--- the report of a call that answers no more than that its checks passed
-abbrev pub passed_or : std.Result Unit CallError → Report
-passed_or (Ok u) = passed_report u
-passed_or (Err e) = turned_report e
 
 -- ---- a listing's state
 

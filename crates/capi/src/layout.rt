@@ -3,11 +3,12 @@ ghost use Rattle.std.specs.Prelude.{◌≡◌, ◌+◌, ◌≤◌, length, take,
 ghost use Rattle.capi.specs.Layout.{word_size, word, from_low_first, padded};
 ghost use Rattle.capi.specs.Promises.{Wrote};
 
-use names::name::lend;
+use names::bytes::lend;
 use output::{clear, put};
 
 pub const WORD_SIZE: usize = 8;
 
+// Kept: the C interface's fields lie at fixed places.
 #[tactic(auto, using(crate::proofs::Words::word_written))]
 pub(crate) fn put_word(out: &mut [u8], at: usize, n: u64)
     ensures { Wrote out.old at (word n) out.new }

@@ -10,9 +10,10 @@ ghost use Rattle.capi.specs.Output.{OpenGiven, StepGiven};
 ghost use Rattle.capi.specs.Promises.{Wrote, report_of, state_of};
 
 use crate::layout::{WORD_SIZE, put_padded, put_word, word_at};
-use crate::report::{NOTHING, REPORT_SIZE, Report, Shown, TOO_SHORT};
+use crate::report::{DONE, NOTHING, REPORT_SIZE, Report, Shown, TOO_SHORT};
 use blocks::snapshot::Snapshot;
-use names::name::{LONGEST, lend};
+use names::bytes::lend;
+use names::name::LONGEST;
 use output::clear;
 use refs::overlay_iter::{Cursor, Listing, Positions, StepError};
 use refs::raw::Parts;
@@ -34,6 +35,7 @@ const EXPANSION_AT: usize = LENGTH_AT + WORD_SIZE;
 pub const STATE_SIZE: usize = EXPANSION_AT + LONGEST;
 
 // A listing's state: where it stands, and the namespace's expansion, lent by the caller's bytes or from where it was made.
+// Kept: Listing holds the expansion that this lends, so it would be copied out of those bytes and back at each step.
 #[derive(Clone, Copy)]
 struct State<'a> {
     cursor: Cursor,
@@ -109,7 +111,7 @@ pub fn cosvint_list_open(s: Snapshot<'_>, namespace: Option<&[u8]>, state: &mut 
     match Listing::open(s, namespace) {
         Ok(listing) => {
             State::from(&listing).put(state);
-            0
+            DONE
         }
         Err(why) => why.into(),
     }
@@ -120,7 +122,7 @@ fn listed<'a>(step: Result<Option<Parts<'a>>, StepError>, e: &[u8]) -> Report<'a
     ensures { report_of result ≡ answer_report (strip_answer e.now (listed parts_of step_number step.entry)) }
 {
     match step {
-        Ok(Some(p)) => Report::Reference(0, Shown::without(p, e)),
+        Ok(Some(p)) => Report::Reference(DONE, Shown::without(p, e)),
         Ok(None) => Report::Number(NOTHING),
         Err(why) => Report::Number(why.into()),
     }

@@ -2,10 +2,10 @@
 ghost use Rattle.std.specs.Prelude.{◌≡◌, ◌++◌, replicate};
 ghost use Rattle.blocks.specs.Means.{region_of};
 ghost use Rattle.refs.specs.Answer.{strip_reference};
-ghost use Rattle.refs.specs.Means.{found_of, parts_of, reference_of};
-ghost use Rattle.capi.specs.Report.{region_number, answer_report, result_report};
+ghost use Rattle.refs.specs.Means.{fit_gives, found_of, parts_of, reference_of};
+ghost use Rattle.capi.specs.Report.{region_number, answer_report, passed_report, result_report};
 ghost use Rattle.capi.specs.Layout.{word, kind_number, object_id, target_name, peeled_id, reference_at, reference_size, reference_bytes};
-ghost use Rattle.capi.specs.Promises.{Wrote, Reported, aim_of, shown, report_of, turned_report, refused_report, passed_or};
+ghost use Rattle.capi.specs.Promises.{Wrote, Reported, shown, report_of, turned_report, refused_report};
 
 use crate::layout::{WORD_SIZE, put_padded, put_word};
 use blocks::block::Region;
@@ -19,13 +19,17 @@ use refs::check::CallError;
 use refs::find::FindError;
 use refs::raw::{Parts, Reference};
 
-// "Not there" and "ended", and an output that is too short: document 01 has no numbers for them.
+// What was asked is done: accepted, fit, found, reached or handed out.
 // Kept: the C interface answers by numbers.
+pub const DONE: u32 = 0;
+
+// "Not there" and "ended", and an output that is too short: document 01 has no numbers for them.
 pub const NOTHING: u32 = 100;
 
 pub const TOO_SHORT: u32 = 101;
 
 // Where each field of a report begins.
+// Kept: the C interface hands a report to the caller, as bytes at fixed places.
 const NUMBER_AT: usize = 0;
 
 const REGION_AT: usize = NUMBER_AT + WORD_SIZE;
@@ -64,13 +68,15 @@ fn region_number(region: Region) -> u64
 }
 
 // The target of a reference that is reported: the id of an object, or another reference's name.
+// Kept: Target holds its id and name, TargetRef lends both, and this holds the id alone; a generic one would bring two type arguments into each clause.
 #[derive(Clone, Copy)]
 pub(crate) enum Aim<'a> {
     Object(Id),
     Symbolic(&'a [u8]),
 }
 
-// A reference that is reported. Its names are lent from where they lie: a struct that holds them would be copied.
+// A reference that is reported.
+// Kept: Parts lends ids as the block has them, and a report holds them in lower case; Reference holds its names too, which would be copied.
 #[derive(Clone, Copy)]
 pub(crate) struct Shown<'a> {
     name: &'a [u8],
@@ -187,11 +193,11 @@ impl<'a> From<CallError> for Report<'a> {
 
 // A call that answers no more than that its checks passed.
 impl<'a> From<Result<(), CallError>> for Report<'a> {
-    ghost from_gives = { λ passed r. report_of r ≡ passed_or passed };
+    ghost from_gives = { λ passed r. report_of r ≡ result_report passed_report (fit_gives passed) };
 
     fn from(passed: Result<(), CallError>) -> Report<'a> {
         match passed {
-            Ok(()) => Report::Number(0),
+            Ok(()) => Report::Number(DONE),
             Err(e) => e.into(),
         }
     }
@@ -214,7 +220,7 @@ impl<'a> From<&'a Result<Option<Reference>, FindError>> for Report<'a> {
 
     fn from(found: &'a Result<Option<Reference>, FindError>) -> Report<'a> {
         match found {
-            Ok(Some(r)) => Report::Reference(0, r.into()),
+            Ok(Some(r)) => Report::Reference(DONE, r.into()),
             Ok(None) => Report::Number(NOTHING),
             Err(e) => (*e).into(),
         }

@@ -6,12 +6,11 @@ ghost use Rattle.refs.specs.Search.{find};
 ghost use Rattle.refs.specs.Follow.{follow};
 ghost use Rattle.capi.specs.Report.{result_report, searched_report, followed_report, fitness_report};
 ghost use Rattle.capi.specs.Output.{Given};
-ghost use Rattle.capi.specs.Promises.{report_of, passed_or};
+ghost use Rattle.capi.specs.Promises.{report_of};
 
-use crate::report::{NOTHING, REPORT_SIZE, Report, Shown, TOO_SHORT};
-use blocks::fitness::{fitness, size_check};
+use crate::report::{DONE, NOTHING, REPORT_SIZE, Report, Shown, TOO_SHORT};
 use blocks::snapshot::Snapshot;
-use refs::check::CallError;
+use refs::check::check_fit;
 use refs::find::{FindError, find};
 use refs::raw_ext::{Trail, follow};
 
@@ -22,7 +21,7 @@ impl<'a> From<&'a Result<Option<Trail>, FindError>> for Report<'a> {
     fn from(trail: &'a Result<Option<Trail>, FindError>) -> Report<'a> {
         match trail {
             Ok(Some(t)) => {
-                let number = t.end.err().map_or(0, u32::from);
+                let number = t.end.err().map_or(DONE, u32::from);
                 Report::Reference(number, Shown::from(&t.last))
             }
             Ok(None) => Report::Number(NOTHING),
@@ -31,23 +30,15 @@ impl<'a> From<&'a Result<Option<Trail>, FindError>> for Report<'a> {
     }
 }
 
-// Whether a snapshot is fit for search: rows 1 and 2, then 6 to 8.
-fn fit(s: Snapshot<'_>) -> Result<(), CallError>
-    ensures { passed_or result ≡ fitness_report (snapshot_of s.entry) }
-{
-    size_check(s)?;
-    fitness(s)?;
-    Ok(())
-}
-
 // Fitness for search: 0, or 1, 2 and 6 to 8.
+// Kept: the three calls differ in what they ask: a helper would take that as a closure and its clause, longer than this test of the length.
 pub fn cosvint_fitness(s: Snapshot<'_>, out: &mut [u8]) -> u32
     ensures { Given (fitness_report (snapshot_of s.entry)) out.old out.new result }
 {
     if out.len() < REPORT_SIZE {
         return TOO_SHORT;
     }
-    Report::from(fit(s)).put(out)
+    Report::from(check_fit(s)).put(out)
 }
 
 // Search: 0 where a reference is found, 100 where it is not there, else 1 to 12.

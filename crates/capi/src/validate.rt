@@ -1,21 +1,19 @@
 // Checks of names: 0 where a name is accepted, else the number of its refusal.
-ghost use Rattle.std.specs.Prelude.{◌≡◌};
-ghost use Rattle.std.specs.Prelude.{None, Some};
+ghost use Rattle.std.specs.Prelude.{◌≡◌, None, Some};
 ghost use Rattle.names.specs.Namespace.{names_check, expanded};
 ghost use Rattle.names.specs.Means.{check_of, full_checked};
 ghost use Rattle.capi.specs.Report.{check_number, checked_number};
 
+use crate::report::DONE;
 use names::fullname::check_full;
-use names::name::{Refusal, check_partial};
+use names::name::Refusal;
 use names::namespace::check_namespace;
+use names::partial::check_partial;
 
 fn number(checked: Result<(), Refusal>) -> u32
     ensures { result ≡ check_number (check_of checked) }
 {
-    match checked {
-        Ok(()) => 0,
-        Err(why) => why.into(),
-    }
+    checked.err().map_or(DONE, u32::from)
 }
 
 // A partial name: 3 over 250 bytes, 4 if malformed.

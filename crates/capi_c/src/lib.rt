@@ -1,8 +1,8 @@
 // The archive for C and Rust: each export calls the function of capi that has its name, under the same clause.
+// Kept: the C interface needs each export's name and number, a flag beside what may be absent, and the regions one by one.
 #![tactic(auto)]
 
-ghost use Rattle.std.specs.Prelude.{◌≡◌, option_copied};
-ghost use Rattle.std.specs.Prelude.{None, Some};
+ghost use Rattle.std.specs.Prelude.{◌≡◌, None, Some};
 ghost use Rattle.names.specs.Namespace.{names_check, expanded};
 ghost use Rattle.names.specs.Means.{full_checked};
 ghost use Rattle.blocks.specs.Means.{id_width, if_there, snapshot_from, snapshot_of};
@@ -16,13 +16,6 @@ ghost use Rattle.capi.specs.Output.{Given, OpenGiven, StepGiven};
 use blocks::snapshot::Snapshot;
 use capi::{listing, search, validate};
 
-// Bytes that may be absent.
-fn given(there: bool, s: &[u8]) -> Option<&[u8]>
-    ensures { option_copied result ≡ if_there there s.now }
-{
-    there.then_some(s)
-}
-
 fn snapshot<'a>(
     worktree: &'a [u8],
     common: &'a [u8],
@@ -33,7 +26,7 @@ fn snapshot<'a>(
 {
     Snapshot {
         worktree,
-        common: given(has_common, common),
+        common: has_common.then_some(common),
         packed,
     }
 }
@@ -63,7 +56,6 @@ pub extern "C" fn cosvint_namespace(namespace: &[u8]) -> u32
 }
 
 // Fitness for search: 0, or 1, 2 and 6 to 8.
-// Kept: the C interface needs a flag beside what may be absent.
 #[unsafe(no_mangle)]
 pub extern "C" fn cosvint_fitness<'a>(
     worktree: &'a [u8],
@@ -78,7 +70,6 @@ pub extern "C" fn cosvint_fitness<'a>(
 }
 
 // Search: 0 where a reference is found, 100 where it is not there, else 1 to 12.
-// Kept: the C interface needs a flag beside what may be absent.
 #[unsafe(no_mangle)]
 pub extern "C" fn cosvint_find<'a>(
     worktree: &'a [u8],
@@ -95,13 +86,12 @@ pub extern "C" fn cosvint_find<'a>(
     search::cosvint_find(
         snapshot(worktree, common, has_common, packed),
         name,
-        given(has_namespace, namespace),
+        has_namespace.then_some(namespace),
         out,
     )
 }
 
 // Following: 0 where an id is reached, 100 where the name is not there, else 1 to 15.
-// Kept: the C interface needs a flag beside what may be absent.
 #[unsafe(no_mangle)]
 pub extern "C" fn cosvint_follow<'a>(
     worktree: &'a [u8],
@@ -118,13 +108,12 @@ pub extern "C" fn cosvint_follow<'a>(
     search::cosvint_follow(
         snapshot(worktree, common, has_common, packed),
         name,
-        given(has_namespace, namespace),
+        has_namespace.then_some(namespace),
         out,
     )
 }
 
 // A listing's opening: 0, or 1 to 5. Where it is refused the state is not written.
-// Kept: the C interface needs a flag beside what may be absent.
 #[unsafe(no_mangle)]
 pub extern "C" fn cosvint_list_open<'a>(
     worktree: &'a [u8],
@@ -139,13 +128,12 @@ pub extern "C" fn cosvint_list_open<'a>(
 {
     listing::cosvint_list_open(
         snapshot(worktree, common, has_common, packed),
-        given(has_namespace, namespace),
+        has_namespace.then_some(namespace),
         state,
     )
 }
 
 // One step from the state, which becomes the next: 0 with a reference, 100 where the listing is ended, else 1, 2, or 6 to 12.
-// Kept: the C interface needs a flag beside what may be absent.
 #[unsafe(no_mangle)]
 pub extern "C" fn cosvint_list_step<'a>(
     worktree: &'a [u8],

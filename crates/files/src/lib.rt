@@ -2,15 +2,16 @@
 // though no more of it is read than the buffer holds.
 #![tactic(auto)]
 
-ghost use Rattle.std.specs.Prelude.{◌≡◌, ◌≤◌, ◌↔◌, ◌||◌, length, take, IsErr, IfOk, IsTrue};
+ghost use Rattle.std.specs.Prelude.{◌≡◌, ◌≤◌, ◌↔◌, ◌||◌, length, take, unwrap_or, IsErr, IfOk, IsTrue};
 ghost use Rattle.std.specs.Io.KnownBytes.{Consumes};
 ghost use Rattle.std.specs.Option.{option_copied, option_map};
 ghost use Rattle.names.specs.Means.{held};
 ghost use Rattle.files.specs.Loaded.{is_failed, size_of, size_if_there};
 
 use arrayvec::ArrayString;
-use blocks::snapshot::Snapshot;
-use names::name::lend;
+use blocks::block::BLOCK_SIZE;
+use blocks::snapshot::{Sizes, Snapshot};
+use names::bytes::lend;
 use std::fmt::Write as _;
 use std::io::{Read, Seek, SeekFrom};
 use std::rt::Files;
@@ -24,6 +25,7 @@ pub struct Told;
 pub type Loaded = Result<Option<usize>, Told>;
 
 // The whole sizes of a snapshot's files. A missing file is an absent common region, or an empty worktree or packed.
+// Kept: sizes beside the bytes, since a file may be larger than its buffer, and what refuses it asks its whole size.
 #[derive(Debug, Clone, Copy)]
 pub struct FileSizes {
     pub worktree: usize,
@@ -32,6 +34,7 @@ pub struct FileSizes {
 }
 
 // The sizes of the three, if each that is there can be read.
+// Kept: the three files, here and in snapshot: what is read of each, and its bytes; SnapshotFiles holds the latter.
 pub fn sizes(worktree: Loaded, common: Loaded, packed: Loaded) -> Result<FileSizes, Told>
     ensures err { IsErr result ↔ IsTrue (is_failed worktree || is_failed common || is_failed packed) }
     ensures ok { IfOk result (λ s. (s.worktree ≡ size_of worktree) × (s.common ≡ size_if_there common) × (s.packed ≡ size_of packed)) }
@@ -44,6 +47,19 @@ pub fn sizes(worktree: Loaded, common: Loaded, packed: Loaded) -> Result<FileSiz
 }
 
 impl FileSizes {
+    // What rows 1 and 2 look at.
+    pub fn sizes(self) -> Sizes
+        ensures worktree { result.worktree ≡ self.worktree }
+        ensures common { result.common ≡ unwrap_or self.common 0 }
+        ensures packed { result.packed ≡ self.packed }
+    {
+        Sizes {
+            worktree: self.worktree,
+            common: self.common.unwrap_or(0),
+            packed: self.packed,
+        }
+    }
+
     // The snapshot of files whose bytes stand at the start of these buffers, where no file is larger than its buffer.
     pub fn snapshot<'a>(
         self,
@@ -119,9 +135,8 @@ fn read_full<F: Read>(file: &mut F, buf: &mut [u8]) -> usize
     let mut done = 0;
     while done < buf.len() {
         match file.read(&mut buf[done..]) {
-            Ok(0) => return done,
+            Ok(0) | Err(_) => break,
             Ok(n) => done += n,
-            Err(_) => return done,
         }
     }
     done
@@ -158,5 +173,44 @@ pub fn load(rt: &(impl Files + Eprint), path: &[u8], buf: &mut [u8]) -> Loaded {
         Ok(mut file) => Ok(Some(read_open(rt, &mut file, path, buf)?)),
         Err(why) if why.kind() == io::ErrorKind::NotFound => Ok(None),
         Err(why) => Err(tell(rt, path, &why)),
+    }
+}
+
+// 40 blocks, as many as a program takes.
+const FILE_SIZE: usize = 40 * BLOCK_SIZE;
+
+// The three files of a snapshot, in the folder that a program is run in.
+#[derive(Drop)]
+pub struct SnapshotFiles {
+    pub worktree: [u8; FILE_SIZE],
+    pub common: [u8; FILE_SIZE],
+    pub packed: [u8; FILE_SIZE],
+    pub whole: FileSizes,
+}
+
+impl SnapshotFiles {
+    pub fn load(rt: &(impl Files + Eprint)) -> Result<SnapshotFiles, Told> {
+        let mut worktree = [0u8; FILE_SIZE];
+        let mut common = [0u8; FILE_SIZE];
+        let mut packed = [0u8; FILE_SIZE];
+        let w = load(rt, b"worktree.blk", &mut worktree);
+        let c = load(rt, b"common.blk", &mut common);
+        let p = load(rt, b"packed.blk", &mut packed);
+        Ok(SnapshotFiles {
+            worktree,
+            common,
+            packed,
+            whole: sizes(w, c, p)?,
+        })
+    }
+
+    // Where no file is larger than its buffer.
+    pub fn snapshot(&self) -> Snapshot<'_>
+        ensures worktree { result.worktree.now ≡ held self.now.worktree self.now.whole.worktree }
+        ensures common { option_copied result.common ≡ option_map (λ n. held self.now.common n) self.now.whole.common }
+        ensures packed { result.packed.now ≡ held self.now.packed self.now.whole.packed }
+    {
+        self.whole
+            .snapshot(&self.worktree, &self.common, &self.packed)
     }
 }

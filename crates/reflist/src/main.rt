@@ -2,27 +2,16 @@
 // What it writes is `text::reflist`'s, proved equal to document 01's definition of it.
 #![tactic(auto)]
 
-use files::{load, sizes, write_out};
+use files::{SnapshotFiles, write_out};
 use text::reflist::{report, size_report};
 
-// 40 blocks.
-const FILE_SIZE: usize = 20480;
-
+// Kept: four lines as in refshow: one function of both would take two closures and the text's size.
 fn main(rt: HostRuntime) {
-    let mut worktree = [0u8; FILE_SIZE];
-    let mut common = [0u8; FILE_SIZE];
-    let mut packed = [0u8; FILE_SIZE];
-    let w = load(&rt, b"worktree.blk", &mut worktree);
-    let c = load(&rt, b"common.blk", &mut common);
-    let p = load(&rt, b"packed.blk", &mut packed);
-    let Ok(whole) = sizes(w, c, p) else {
+    let Ok(files) = SnapshotFiles::load(&rt) else {
         return;
     };
-    let refused = size_report(whole.worktree, whole.common.unwrap_or(0), whole.packed);
-    if !refused.as_bytes().is_empty() {
-        write_out(&rt, refused.as_bytes());
-        return;
+    match size_report(files.whole.sizes()) {
+        Some(refused) => write_out(&rt, refused.as_bytes()),
+        None => write_out(&rt, report(files.snapshot()).as_bytes()),
     }
-    let snapshot = whole.snapshot(&worktree, &common, &packed);
-    write_out(&rt, report(snapshot).as_bytes());
 }

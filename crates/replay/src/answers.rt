@@ -11,6 +11,7 @@ const ROOM: usize = 65536;
 const DIGITS: &[u8; 16] = b"0123456789abcdef";
 
 // What waits, and what it is written to.
+// Kept: a BufWriter by hand, since std's holds a Vec (no heap); and no trait with text's Text, which puts bytes as they are, not hex behind a space.
 #[derive(Drop)]
 pub(crate) struct Pending<'a, P: Print> {
     waiting: ArrayVec<u8, ROOM>,
@@ -48,6 +49,7 @@ impl<'a, P: Print> Pending<'a, P> {
     }
 
     // A byte string, behind a space.
+    // Kept: hex fills a slice of twice the length, so byte by byte (no heap) it is as long, with a Result to pass over.
     pub(crate) fn put_bytes(&mut self, s: &[u8]) {
         self.put(b" ");
         if s.is_empty() {
@@ -69,9 +71,9 @@ impl<'a, P: Print> Pending<'a, P> {
         self.put(&id.digits);
     }
 
-    pub(crate) fn put_peeled(&mut self, peeled: &Option<Id>) {
+    pub(crate) fn put_peeled(&mut self, peeled: Option<Id>) {
         match peeled {
-            Some(id) => self.put_id(id),
+            Some(id) => self.put_id(&id),
             None => self.put(b" ~"),
         }
     }

@@ -9,8 +9,6 @@ use names::validate::{complete, well_formed};
 impl<P: Print> Pending<'_, P> {
     // All but a listing is one line, whose end is put here.
     pub(crate) fn put_answer(&mut self, question: Question<'_>, kept: &Kept) {
-        let snapshot = kept.snapshot();
-        let namespace = kept.namespace();
         match question {
             Question::WellFormed(s) => self.put_yes_no(well_formed(s)),
             Question::Complete(s) => self.put_yes_no(complete(s)),
@@ -25,11 +23,11 @@ impl<P: Print> Pending<'_, P> {
             }
             Question::Decode(s) => self.put_target(s),
             Question::Block { region, block } => self.put_block(region, block),
-            Question::Fit => self.put_fitness(snapshot),
-            Question::Find(name) => self.put_search(snapshot, name, namespace),
-            Question::Follow(name) => self.put_following(snapshot, name, namespace),
-            Question::Step(at) => self.put_step_from(snapshot, namespace, at),
-            Question::List(count) => return self.put_listing(snapshot, namespace, count),
+            Question::Fit => self.put_fitness(kept.snapshot()),
+            Question::Find(name) => self.put_search(kept, name),
+            Question::Follow(name) => self.put_following(kept, name),
+            Question::Step(at) => self.put_step_from(kept, at),
+            Question::List(count) => return self.put_listing(kept, count),
         }
         self.put(b"\n");
     }

@@ -28,7 +28,7 @@ impl<P: Print> Pending<'_, P> {
                 self.put(b"packed");
                 self.put_bytes(name);
                 self.put_id(&id_of(target));
-                self.put_peeled(&peeled.map(|p| id_of(p)));
+                self.put_peeled(peeled.map(|p| id_of(p)));
             }
         }
     }

@@ -12,29 +12,14 @@ pub(crate) const MOST: usize = 20481;
 
 pub(crate) type Bytes = ArrayVec<u8, MOST>;
 
-// The fields of a line. An empty one needs no test: it is no word, no byte string and no number.
-#[derive(Clone, Copy)]
-pub(crate) enum Fields<'a> {
-    One(&'a [u8]),
-    Two(&'a [u8], &'a [u8]),
-    Three(&'a [u8], &'a [u8], &'a [u8]),
-    Four(&'a [u8], &'a [u8], &'a [u8], &'a [u8]),
-}
+// The fields of a line, which has at most four. An empty one needs no test: it is no word, no byte string and no number.
+pub(crate) type Fields<'a> = ArrayVec<&'a [u8], 4>;
 
-impl<'a> Fields<'a> {
-    // None where there are more than four.
-    pub(crate) fn of(line: &'a [u8]) -> Option<Fields<'a>> {
-        let mut fields = line.split(|b| *b == b' ');
-        let word = fields.next()?;
-        let rest = (fields.next(), fields.next(), fields.next(), fields.next());
-        match rest {
-            (None, _, _, _) => Some(Fields::One(word)),
-            (Some(a), None, _, _) => Some(Fields::Two(word, a)),
-            (Some(a), Some(b), None, _) => Some(Fields::Three(word, a, b)),
-            (Some(a), Some(b), Some(c), None) => Some(Fields::Four(word, a, b, c)),
-            _ => None,
-        }
-    }
+// None where there are more than four.
+pub(crate) fn fields_of(line: &[u8]) -> Option<Fields<'_>> {
+    let mut fields = Fields::new();
+    fields.extend(line.split(|b| *b == b' ')).ok()?;
+    Some(fields)
 }
 
 #[tactic(auto, using(std::proofs::lemmas::Bool::Decides::nat_tests), unfolding(crate::specs::Input::is_digit))]
@@ -45,6 +30,7 @@ fn is_digit(b: u8) -> bool
 }
 
 // What a digit stands for: 0 for any other byte.
+// Kept: to_digit(16) asks for a char and answers an Option of a u32: two conversions, and an unwrap of what is_pairs has asked.
 #[tactic(auto, using(std::proofs::lemmas::Bool::Decides::nat_tests), unfolding(crate::specs::Input::digit_value))]
 fn digit_value(b: u8) -> u8
     ensures { (result ≡ digit_value b) × (result < 16) }
@@ -83,6 +69,7 @@ fn is_pairs(s: &[u8]) -> bool
 }
 
 // The byte string that a field gives. Where it gives none, `to` stays as it is.
+// Kept: into a lent room, since a question lends its bytes from there (no heap).
 pub(crate) fn read_bytes(s: &[u8], to: &mut Bytes) -> Option<()>
     ensures { Reads s.now to.old.items to.new.items result }
 {
@@ -114,6 +101,7 @@ pub(crate) fn lend_optional<'a>(s: &[u8], room: &'a mut Bytes) -> Option<Option<
 }
 
 // The number with one more decimal digit behind it.
+// Kept: parse takes a str, and a + in front too, which is no number here.
 fn with_digit(value: usize, b: u8) -> Option<usize>
     ensures { result ≡ number_behind value (b ∷ []) }
 {

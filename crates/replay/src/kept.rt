@@ -1,5 +1,5 @@
 // What is set, for the lines that follow.
-use crate::input::{Bytes, Fields, read_bytes};
+use crate::input::{Bytes, read_bytes};
 use blocks::snapshot::Snapshot;
 use names::bytes::equal;
 
@@ -35,26 +35,23 @@ impl Kept {
     }
 
     // None where the line sets nothing.
-    pub(crate) fn set(&mut self, fields: Fields<'_>) -> Option<()> {
-        match fields {
-            Fields::Two(b"worktree", value) => read_bytes(value, &mut self.worktree),
-            Fields::Two(b"common", value) => read_optional(value, &mut self.common),
-            Fields::Two(b"packed", b"~") => {
+    pub(crate) fn set(&mut self, fields: &[&[u8]]) -> Option<()> {
+        match *fields {
+            [b"worktree", value] => read_bytes(value, &mut self.worktree),
+            [b"common", value] => read_optional(value, &mut self.common),
+            [b"packed", b"~"] => {
                 self.packed.clear();
                 Some(())
             }
-            Fields::Two(b"packed", value) => read_bytes(value, &mut self.packed),
-            Fields::Two(b"namespace", value) => read_optional(value, &mut self.namespace),
+            [b"packed", value] => read_bytes(value, &mut self.packed),
+            [b"namespace", value] => read_optional(value, &mut self.namespace),
             _ => None,
         }
     }
 }
 
 fn lent(kept: &Option<Bytes>) -> Option<&[u8]> {
-    match kept {
-        Some(bytes) => Some(bytes.as_slice()),
-        None => None,
-    }
+    kept.as_ref().map(|bytes| bytes.as_slice())
 }
 
 // What a field gives that may say that there is none.

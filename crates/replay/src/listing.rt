@@ -1,9 +1,8 @@
 // The listing.
 use crate::answers::Pending;
+use crate::kept::Kept;
 use blocks::fitness::size_check;
-use blocks::snapshot::Snapshot;
-use names::name::{Name, Refusal};
-use names::namespace::expand;
+use names::namespace::expansion_of;
 use refs::overlay_iter::{Cursor, Listing, Positions, StepError};
 use refs::raw::Reference;
 
@@ -25,10 +24,10 @@ impl<P: Print> Pending<'_, P> {
     }
 
     // The opening and so many steps, each on a line of its own.
-    pub(crate) fn put_listing(&mut self, s: Snapshot<'_>, namespace: Option<&[u8]>, count: usize) {
-        match Listing::open(s, namespace) {
-            Ok(opened) => {
-                let mut listing = opened;
+    pub(crate) fn put_listing(&mut self, kept: &Kept, count: usize) {
+        let s = kept.snapshot();
+        match Listing::open(s, kept.namespace()) {
+            Ok(mut listing) => {
                 for _ in 0..count {
                     let answer = listing.step(s);
                     self.put_step(&answer, listing.cursor.at);
@@ -43,13 +42,9 @@ impl<P: Print> Pending<'_, P> {
     }
 
     // One step from any positions. A refused namespace is answered as the opening would; with a good one, 1 is the step's.
-    pub(crate) fn put_step_from(
-        &mut self,
-        s: Snapshot<'_>,
-        namespace: Option<&[u8]>,
-        at: Positions,
-    ) {
-        match expansion_of(namespace) {
+    pub(crate) fn put_step_from(&mut self, kept: &Kept, at: Positions) {
+        let s = kept.snapshot();
+        match expansion_of(kept.namespace()) {
             Ok(expansion) => {
                 let mut listing = Listing {
                     cursor: Cursor { at, ended: false },
@@ -63,13 +58,5 @@ impl<P: Print> Pending<'_, P> {
                 Err(sizes) => self.put_refused(sizes),
             },
         }
-    }
-}
-
-// Empty where there is no namespace.
-fn expansion_of(namespace: Option<&[u8]>) -> Result<Name, Refusal> {
-    match namespace {
-        Some(n) => Ok(expand(n)?.0),
-        None => Ok(Name::empty()),
     }
 }

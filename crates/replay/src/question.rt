@@ -1,5 +1,5 @@
 // What a line asks.
-use crate::input::{Bytes, Fields, lend_bytes, lend_optional, read_number};
+use crate::input::{Bytes, lend_bytes, lend_optional, read_number};
 use blocks::block::{BLOCK_SIZE, LONGEST_CONTENT, Region};
 use names::fullname::Category;
 use refs::overlay_iter::Positions;
@@ -50,22 +50,20 @@ impl Rooms {
 
 impl<'a> Question<'a> {
     // None where the line has no right shape.
-    pub(crate) fn parse(fields: Fields<'_>, rooms: &'a mut Rooms) -> Option<Question<'a>> {
+    pub(crate) fn parse(fields: &[&[u8]], rooms: &'a mut Rooms) -> Option<Question<'a>> {
         let Rooms { first, second } = rooms;
-        match fields {
-            Fields::One(b"fit") => Some(Question::Fit),
-            Fields::Two(b"list", count) => Some(Question::List(read_number(count)?)),
-            Fields::Two(word, s) => of_one(word, lend_bytes(s, first)?),
-            Fields::Three(b"block", region, s) => of_block(region, lend_bytes(s, first)?),
-            Fields::Three(word, s, t) => {
-                of_two(word, lend_bytes(s, first)?, lend_bytes(t, second)?)
-            }
-            Fields::Four(b"fullname", category, worktree, short) => of_short(
+        match *fields {
+            [b"fit"] => Some(Question::Fit),
+            [b"list", count] => Some(Question::List(read_number(count)?)),
+            [word, s] => of_one(word, lend_bytes(s, first)?),
+            [b"block", region, s] => of_block(region, lend_bytes(s, first)?),
+            [word, s, t] => { of_two(word, lend_bytes(s, first)?, lend_bytes(t, second)?) }
+            [b"fullname", category, worktree, short] => of_short(
                 category,
                 lend_optional(worktree, first)?,
                 lend_bytes(short, second)?,
             ),
-            Fields::Four(b"step", worktree, common, packed) => Some(Question::Step(Positions {
+            [b"step", worktree, common, packed] => Some(Question::Step(Positions {
                 worktree: read_number(worktree)?,
                 common: read_number(common)?,
                 packed: read_number(packed)?,

@@ -1,9 +1,10 @@
 // Lines, each obeyed or answered when it is whole.
 use crate::answers::Pending;
-use crate::input::Fields;
+use crate::input::fields_of;
 use crate::kept::Kept;
 use crate::question::{Question, Rooms};
 use arrayvec::ArrayVec;
+use std::io::Write as _;
 
 // One byte more than the longest line that is answered, which has 131,072. No line of a right shape is longer, unless its numbers
 // have many zeros in front.
@@ -42,9 +43,7 @@ impl Replay {
 
     // What finds no room makes the line too long, whatever it is.
     fn gather(&mut self, s: &[u8]) {
-        let room = self.line.remaining_capacity();
-        let part = if s.len() < room { s } else { &s[..room] };
-        let _ = self.line.try_extend_from_slice(part);
+        let _ = self.line.write(s);
     }
 
     // Empty lines and those that begin with # are passed over.
@@ -64,9 +63,9 @@ impl Replay {
         if self.line.is_full() {
             return None;
         }
-        let fields = Fields::of(&self.line)?;
-        if self.kept.set(fields).is_none() {
-            out.put_answer(Question::parse(fields, &mut self.rooms)?, &self.kept);
+        let fields = fields_of(&self.line)?;
+        if self.kept.set(&fields).is_none() {
+            out.put_answer(Question::parse(&fields, &mut self.rooms)?, &self.kept);
         }
         Some(())
     }

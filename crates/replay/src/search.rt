@@ -1,16 +1,17 @@
 // Whether the snapshot is fit for search, search and following.
 use crate::answers::Pending;
+use crate::kept::Kept;
 use blocks::block::Region;
 use blocks::decode::Target;
-use blocks::fitness::{fitness, size_check};
 use blocks::snapshot::Snapshot;
-use refs::check::CallError;
+use refs::check::{CallError, check_fit};
 use refs::find::{FindError, find};
 use refs::raw::Reference;
 use refs::raw_ext::follow;
 
 impl<P: Print> Pending<'_, P> {
     // A refusal of rows 1 to 8.
+    // Kept: the words of text's `region_word`: a public function more, with its contract, is no plainer than three words.
     fn put_turned_away(&mut self, why: CallError) {
         match why {
             CallError::Sizes(why) => self.put_refused(why),
@@ -35,7 +36,7 @@ impl<P: Print> Pending<'_, P> {
     }
 
     pub(crate) fn put_fitness(&mut self, s: Snapshot<'_>) {
-        match fit(s) {
+        match check_fit(s) {
             Ok(()) => self.put(b"fit"),
             Err(why) => self.put_turned_away(why),
         }
@@ -48,7 +49,7 @@ impl<P: Print> Pending<'_, P> {
             Target::Object(id) => {
                 self.put(b" object");
                 self.put_id(id);
-                self.put_peeled(&r.peeled);
+                self.put_peeled(r.peeled);
             }
             Target::Symbolic(name) => {
                 self.put(b" symbolic");
@@ -58,8 +59,9 @@ impl<P: Print> Pending<'_, P> {
         }
     }
 
-    pub(crate) fn put_search(&mut self, s: Snapshot<'_>, name: &[u8], namespace: Option<&[u8]>) {
-        match find(s, name, namespace) {
+    // Kept: beside put_following: three arms each, of which two are one word and one call.
+    pub(crate) fn put_search(&mut self, kept: &Kept, name: &[u8]) {
+        match find(kept.snapshot(), name, kept.namespace()) {
             Ok(Some(reference)) => {
                 self.put(b"found");
                 self.put_reference(&reference);
@@ -69,8 +71,8 @@ impl<P: Print> Pending<'_, P> {
         }
     }
 
-    pub(crate) fn put_following(&mut self, s: Snapshot<'_>, name: &[u8], namespace: Option<&[u8]>) {
-        match follow(s, name, namespace) {
+    pub(crate) fn put_following(&mut self, kept: &Kept, name: &[u8]) {
+        match follow(kept.snapshot(), name, kept.namespace()) {
             Ok(Some(trail)) => {
                 match trail.end {
                     Ok(id) => {
@@ -85,10 +87,4 @@ impl<P: Print> Pending<'_, P> {
             Err(why) => self.put_not_found(why),
         }
     }
-}
-
-fn fit(s: Snapshot<'_>) -> Result<(), CallError> {
-    size_check(s)?;
-    fitness(s)?;
-    Ok(())
 }

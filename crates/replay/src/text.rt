@@ -1,9 +1,9 @@
 // Answers about names, and the content of a loose file.
 use crate::answers::Pending;
 use blocks::decode::{Target, try_from_path};
-use names::fullname::{Category, FullName, category_and_short_name};
-use names::name::Name;
-use names::namespace::{Namespace, expand};
+use names::fullname::{Category, category_and_short_name};
+use names::name::{Name, Refusal};
+use names::namespace::expand;
 use std::cmp::Ordering;
 
 impl<P: Print> Pending<'_, P> {
@@ -11,6 +11,7 @@ impl<P: Print> Pending<'_, P> {
         self.put(if is_so { b"yes" } else { b"no" });
     }
 
+    // Kept: the vector format's words, here and below, not the types': a Display or TryFrom would bind the types to this program.
     pub(crate) fn put_order(&mut self, o: Ordering) {
         self.put(match o {
             Ordering::Less => b"less",
@@ -53,23 +54,22 @@ impl<P: Print> Pending<'_, P> {
         }
     }
 
-    fn put_made(&mut self, name: &Name) {
-        self.put(b"name");
-        self.put_name(name);
+    fn put_made(&mut self, made: Result<Name, Refusal>) {
+        match made {
+            Ok(name) => {
+                self.put(b"name");
+                self.put_name(&name);
+            }
+            Err(why) => self.put_refused(why),
+        }
     }
 
     pub(crate) fn put_full_name(&mut self, category: Category<'_>, short: &[u8]) {
-        match category.to_full_name(short) {
-            Ok(FullName(name)) => self.put_made(&name),
-            Err(why) => self.put_refused(why),
-        }
+        self.put_made(category.to_full_name(short).map(|full| full.0));
     }
 
     pub(crate) fn put_expansion(&mut self, s: &[u8]) {
-        match expand(s) {
-            Ok(Namespace(name)) => self.put_made(&name),
-            Err(why) => self.put_refused(why),
-        }
+        self.put_made(expand(s).map(|expanded| expanded.0));
     }
 
     pub(crate) fn put_target(&mut self, s: &[u8]) {

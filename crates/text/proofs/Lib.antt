@@ -2,5 +2,4 @@
 pub mod Puts
 pub mod Decimal
 pub mod Runs
-pub mod Shows
 pub mod Whole

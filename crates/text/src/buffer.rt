@@ -13,6 +13,7 @@ use std::marker::Model;
 
 // Text of at most `N` bytes, which lie in the value itself. A piece that finds no room is left out: that none is, a program's text
 // promises by being equal to its definition.
+// Kept: no Display, since it writes `str` alone, and a name may hold bytes that are no UTF-8 text.
 #[derive(Drop)]
 pub struct Text<const N: usize> {
     bytes: ArrayVec<u8, N>,

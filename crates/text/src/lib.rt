@@ -1,4 +1,4 @@
-// What the programs write, as text in a lent buffer.
+// What the programs write, as a text of bounded size.
 #![tactic(auto)]
 
 pub mod buffer;

@@ -1,9 +1,9 @@
 // The text of `reflist`: a heading, a line for each entry or error, and the end with their count.
-ghost use Rattle.std.specs.Prelude.{◌≡◌, ◌+◌, ◌*◌, ◌++◌, length};
+ghost use Rattle.std.specs.Prelude.{◌≡◌, ◌+◌, ◌*◌, ◌++◌, ◌↔◌, length, IsSome};
 ghost use Rattle.names.specs.Name.{longest};
 ghost use Rattle.names.specs.Category.{short_name};
 ghost use Rattle.names.specs.Means.{content};
-ghost use Rattle.blocks.specs.Means.{id_width, snapshot_of, size_number, sizes_check};
+ghost use Rattle.blocks.specs.Means.{id_width, snapshot_of, size_number};
 ghost use Rattle.blocks.specs.Snapshot.{or_empty};
 ghost use Rattle.refs.specs.Run.{run};
 ghost use Rattle.refs.specs.Means.{reference_of, state_of};
@@ -14,8 +14,8 @@ ghost use Rattle.text.specs.Promises.{Adds, most_digits, longest_target, longest
 use crate::buffer::Text;
 use blocks::block::BLOCK_SIZE;
 use blocks::decode::Target;
-use blocks::fitness::{SizeError, sizes_within};
-use blocks::snapshot::Snapshot;
+use blocks::fitness::SizeError;
+use blocks::snapshot::{Sizes, Snapshot};
 use names::fullname::short_name;
 use names::name::Name;
 use refs::overlay_iter::{Listing, StepError};
@@ -67,6 +67,7 @@ fn put_numbered(out: &mut Report, word: &[u8], n: u64)
     out.put(b"\n");
 }
 
+// Kept: a number, as in refshow's put_refused, for the reason that stands there.
 fn put_error(out: &mut Report, number: u32)
     ensures { Adds REPORT_SIZE longest_line out.old (error_line number) out.new }
 {
@@ -86,25 +87,24 @@ fn put_answer(out: &mut Report, answer: &Result<Option<Reference>, StepError>)
 }
 
 // 1 where an answer has a line, else 0.
+// Kept: a number and no bool, since what is promised of the count is a sum of these.
 fn weight(a: &Result<Option<Reference>, StepError>) -> u64
     ensures { result ≡ line_weight (step_answer a.now) }
 {
     match a {
-        Ok(Some(_)) => 1,
+        Ok(Some(_)) | Err(_) => 1,
         Ok(None) => 0,
-        Err(_) => 1,
     }
 }
 
 // Puts the lines of so many steps of a listing, and counts them.
-fn put_lines(out: &mut Report, s: Snapshot<'_>, listing: Listing, steps: usize) -> u64
+fn put_lines(out: &mut Report, s: Snapshot<'_>, mut listing: Listing, steps: usize) -> u64
     ensures text { Adds REPORT_SIZE (steps * longest_line) out.old (answer_lines (run id_width (snapshot_of s.entry) steps (state_of listing)).answers) out.new }
     ensures counted { result ≡ line_count (run id_width (snapshot_of s.entry) steps (state_of listing)).answers }
 {
-    let mut waiting = listing;
     let mut count: u64 = 0;
     for _ in 0..steps {
-        let answer = waiting.step(s);
+        let answer = listing.step(s);
         put_answer(out, &answer);
         count += weight(&answer);
     }
@@ -138,35 +138,20 @@ fn refusal(why: SizeError) -> Report
     refused
 }
 
-// What is written of files from their sizes alone: nothing where the sizes are right.
+// What is written of files whose sizes alone are refused.
 #[tactic(auto, unfolding(crate::specs::Reflist::files_check))]
-pub fn size_report(worktree: usize, common: usize, packed: usize) -> Report
-    ensures { result ≡ size_report (files_check worktree common packed) }
+pub fn size_report(sizes: Sizes) -> Option<Report>
+    ensures text { or_empty result ≡ size_report (files_check sizes.worktree sizes.common sizes.packed) }
+    ensures refused { IsSome result ↔ IsSome (files_check sizes.worktree sizes.common sizes.packed) }
 {
-    match sizes_within(MOST_LISTED, worktree, common, packed) {
-        Ok(()) => Text::new(),
-        Err(why) => refusal(why),
-    }
-}
-
-// Rows 1 and 2 of the files' bytes.
-#[tactic(auto, unfolding(crate::specs::Reflist::files_check))]
-fn check_sizes(s: Snapshot<'_>) -> Result<(), SizeError>
-    ensures { sizes_check result ≡ files_check (length (snapshot_of s.entry).worktree) (length (or_empty (snapshot_of s.entry).common)) (length (snapshot_of s.entry).packed) }
-{
-    sizes_within(
-        MOST_LISTED,
-        s.worktree.len(),
-        s.common_or_empty().len(),
-        s.packed.len(),
-    )
+    sizes.check(MOST_LISTED).err().map(refusal)
 }
 
 // What is written of the files' bytes.
 pub fn report(s: Snapshot<'_>) -> Report
     ensures { result ≡ report id_width (snapshot_of s.entry) }
 {
-    match check_sizes(s) {
+    match s.sizes().check(MOST_LISTED) {
         Ok(()) => {
             let mut out = Text::new();
             out.put(b"full\tshort\ttarget\n");

@@ -1,8 +1,9 @@
 // The text of `refshow`: the id and the last reference reached, `not there`, or a refusal in words.
-ghost use Rattle.std.specs.Prelude.{◌≡◌, ◌++◌, ◌≤◌, length};
+ghost use Rattle.std.specs.Prelude.{◌≡◌, ◌++◌, ◌≤◌, ◌↔◌, length, IsSome};
 ghost use Rattle.std.specs.Option.{option_copied};
 ghost use Rattle.names.specs.Bytes.{bytes};
 ghost use Rattle.names.specs.Means.{content};
+ghost use Rattle.blocks.specs.Snapshot.{or_empty};
 ghost use Rattle.blocks.specs.Means.{id_width, region_of, snapshot_of, flaw_in};
 ghost use Rattle.refs.specs.Follow.{follow};
 ghost use Rattle.refs.specs.Search.{unfit};
@@ -15,9 +16,9 @@ ghost use Rattle.text.specs.Promises.{Adds, longest_words, longest_refused, long
 use crate::buffer::Text;
 use crate::reflist::MOST_LISTED;
 use blocks::block::Region;
-use blocks::fitness::{Unfit, sizes_within};
+use blocks::fitness::Unfit;
 use blocks::parse::Id;
-use blocks::snapshot::Snapshot;
+use blocks::snapshot::{Sizes, Snapshot};
 use names::name::Name;
 use refs::check::CallError;
 use refs::find::FindError;
@@ -29,6 +30,7 @@ pub const SHOW_SIZE: usize = 1024;
 pub type Shown = Text<SHOW_SIZE>;
 
 // What a number means and what to look at. The numbers of refusals are 1 to 15.
+// Kept: takes the number, since the words have one source by number (docs/REFUSALS.md) and the numbers come from enums of three crates.
 #[tactic(auto, unfolding(crate::specs::Refshow::words))]
 fn words(number: u32) -> &'static [u8]
     ensures text { result.now ≡ words number }
@@ -83,6 +85,7 @@ fn words(number: u32) -> &'static [u8]
 }
 
 // The line of a refusal.
+// Kept: a number here and in all that call it, since `Into` promises a relation, and each equation would become an existence.
 fn put_refused(out: &mut Shown, number: u32)
     ensures { Adds SHOW_SIZE longest_refused out.old (refused_line number) out.new }
 {
@@ -192,15 +195,14 @@ fn followed(t: &Trail) -> Shown
     }
 }
 
-// What is written of files from their sizes alone: nothing where the sizes are right.
+// What is written of files whose sizes alone are refused.
 #[tactic(auto, unfolding(crate::specs::Reflist::files_check))]
-pub fn size_show(worktree: usize, common: usize, packed: usize) -> Shown
-    ensures { result ≡ size_show (files_check worktree common packed) }
+pub fn size_show(sizes: Sizes) -> Option<Shown>
+    ensures text { or_empty result ≡ size_show (files_check sizes.worktree sizes.common sizes.packed) }
+    ensures refused { IsSome result ↔ IsSome (files_check sizes.worktree sizes.common sizes.packed) }
 {
-    match sizes_within(MOST_LISTED, worktree, common, packed) {
-        Ok(()) => Text::new(),
-        Err(why) => refusal(u32::from(why)),
-    }
+    let why = sizes.check(MOST_LISTED).err()?;
+    Some(refusal(u32::from(why)))
 }
 
 // Which commit a name leads to, in words.

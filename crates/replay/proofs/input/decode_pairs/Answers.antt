@@ -7,9 +7,6 @@ loop-high-init c =
     let s = c.args.s.now in
     record { count = rw c.clear.ensures; so_far = rw (c.clear.ensures, c.as_chunks.ensures.front) (in_chunks (length s / 2) s refl) }
 
-pub push-requires : goal.push-requires
-push-requires c = omega (arith, c.loop-high.invariant.count, c.as_chunks.ensures.front_len)
-
 pub loop-high-preserved : goal.loop-high-preserved
 loop-high-preserved c =
     let l = c.loop-high in
