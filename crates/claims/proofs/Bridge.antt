@@ -14,12 +14,12 @@ use Rattle.blocks.specs.Block.{Region, block_kind, block_name, block_content}
 use Rattle.blocks.specs.Entry.{Entry, name_of, entry_of, entry, blocks, entries}
 use Rattle.blocks.proofs.Sorted.{Sorted, sorted-∷}
 use Rattle.blocks.proofs.Stores.{entries_are, entries_if_any, store_is}
-use Rattle.blocks.proofs.Raw.{Raw, raw, IsRecord, packed_entry}
+use Rattle.blocks.proofs.Raw.{Raw, raw, packed_entry, packed_good}
 use Rattle.blocks.specs.Snapshot.{Snapshot, store, or_empty, is_there, common_or, region_at}
 use Rattle.refs.specs.Answer.{bears, block_of}
 use Rattle.claims.specs.Demand3.{is_named, Held, held_by, bearing, held_in, some_held, is_held}
 use Rattle.refs.proofs.Clauses.{block_none, block_more}
-use Rattle.refs.proofs.Blocks.{bears_eq}
+use Rattle.refs.proofs.Blocks.{block_bears}
 use Rattle.claims.proofs.Runs.{Ordered}
 use Rattle.claims.proofs.StoreCut.{Records, held}
 
@@ -48,15 +48,19 @@ module _ (width : ℕ) (r : Region) where
   region_entry : (n s : Bytes) → Sorted None (entries width r s) → block_of n (entries width r s) ≡ first_entry width n (held_in s n)
   region_entry n s h = rw (entries_are width r s) (blocks_entry n (blocks s) (rw (entries_are width r s) at h))
 
--- what a packed region has of a name is a record
-records_in : (width : ℕ) (n : Bytes) (f : Entry) (l : List Bytes) → block_of n (map (entry width Region.packed) l) ≡ Some f → IsRecord f
-records_in width n f [] h = none≢Some (sym (block_none n) ∙ h)
-records_in width n f (x ∷ l) h =
+-- the record of a name is that of a packed block
+record_made : (width : ℕ) (n : Bytes) (f : Entry) (l : List Bytes) → block_of n (map (entry width Region.packed) l) ≡ Some f → (b : Bytes) × (entry width Region.packed b ≡ f)
+record_made width n f [] h = none≢Some (sym (block_none n) ∙ h)
+record_made width n f (x ∷ l) h =
     if_eq (bears n (name_of (entry width Region.packed x))) (sym (block_more n (entry width Region.packed x) (map (entry width Region.packed) l)) ∙ h)
-    (λ b k. let g : entry width Region.packed x ≡ f = cc in rw (← g) (packed_entry width x n (bears_eq n (name_of (entry width Region.packed x)) b))) (λ b k. records_in width n f l k)
+    (λ b k. (x, cc)) (λ b k. record_made width n f l k)
 
+-- what a packed region has of a name is a record, and the name is well formed
 pub records_of : (width : ℕ) (s : Snapshot) → Records (store width s)
-records_of width s n f h = records_in width n f (blocks s.packed) (rw (store_is width s, entries_are width Region.packed s.packed) at h)
+records_of width s n f h =
+    let m = record_made width n f (blocks s.packed) (rw (store_is width s, entries_are width Region.packed s.packed) at h) in
+    let e : name_of (entry width Region.packed m.0) ≡ Some n = rw m.1 (block_bears n f (store width s).packed h) in
+    (rw (← m.1) (packed_entry width m.0 n e), packed_good width m.0 n e)
 
 -- ---- three regions
 

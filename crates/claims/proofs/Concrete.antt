@@ -1,12 +1,14 @@
 -- The premises of demand 3 on a snapshot that is written out: each is a test over the names that its blocks bear.
-use Rattle.std.specs.Prelude.{if◌then◌else◌}
+use Rattle.std.specs.Prelude.{if◌then◌else◌, if◌then◌else◌}
 use mathlib.Core.Path.{◌≡◌, refl, sym, subst, ◌∙◌}
 use mathlib.Core.Logic.{◌⊎◌, inl}
 use mathlib.Core.List.{List, [], ◌∷◌, ◌++◌}
 use mathlib.Core.Bool.{Bool, true, false, ◌&&◌, ◌||◌, not}
+use Rattle.std.specs.Prelude.{Option, None, Some}
 use Rattle.std.proofs.lemmas.Bool.{or_parts}
-use Rattle.names.specs.Bytes.{Bytes, same}
+use Rattle.names.specs.Bytes.{Bytes, same, starts_with}
 use Rattle.names.specs.Name.{directory}
+use Rattle.names.specs.Namespace.{expand}
 use borrow.Author.Tests.{not-true}
 use Rattle.names.proofs.Tests.{and_left, and_right, or_eq, not_both}
 use Rattle.names.proofs.Orders.{same_eq}
@@ -15,7 +17,7 @@ use Rattle.blocks.specs.Entry.{blocks}
 use Rattle.blocks.specs.Snapshot.{Snapshot, or_empty}
 use Rattle.refs.specs.Follow.{among}
 use Rattle.refs.proofs.Clauses.{among_none, among_next}
-use Rattle.claims.specs.Demand3.{is_named, held_by, bearing, held_in, is_held, Flat, Agree}
+use Rattle.claims.specs.Demand3.{is_named, held_by, bearing, held_in, is_held, Flat, Once, Agree}
 
 -- ---- lists of names
 
@@ -99,6 +101,16 @@ pub flat_by : (s : Snapshot) → flat_names (names_of s) ≡ true → Flat s
 unfolding flat_names
 flat_by s h m n p q =
     not-true (directory m n) (of_all (λ n. not (directory m n)) (names_of s) (of_all (λ m. all_of (λ n. not (directory m n)) (names_of s)) (names_of s) h m (held_among s m p)) n (held_among s n q))
+
+-- no name of a list begins with the namespace's expansion twice over
+unfoldable pub once_names : Option Bytes → List Bytes → Bool
+once_names None l = true
+once_names (Some m) l = all_of (λ n. not (starts_with (expand m ++ expand m) n)) l
+
+pub once_by : (namespace : Option Bytes) (s : Snapshot) → once_names namespace (names_of s) ≡ true → Once namespace s
+unfolding once_names
+once_by None s h = tt
+once_by (Some m) s h = λ n p. not-true (starts_with (expand m ++ expand m) n) (of_all (λ n. not (starts_with (expand m ++ expand m) n)) (names_of s) h n (held_among s n p))
 
 -- a list has all names of both snapshots
 unfoldable pub covers : List Bytes → Snapshot → Snapshot → Bool

@@ -1,5 +1,5 @@
 -- The premises of demand 3, one of them left out or none, as a test that computes on two snapshots that are written out.
-use Rattle.std.specs.Prelude.{if◌then◌else◌}
+use Rattle.std.specs.Prelude.{if◌then◌else◌, if◌then◌else◌}
 use mathlib.Core.Path.{◌≡◌, refl, sym, ap₂, ◌∙◌}
 use mathlib.Core.Logic.{◌⊎◌, inl, inr}
 use Prim.Native.Nat.{ℕ}
@@ -8,20 +8,21 @@ use mathlib.Core.Bool.{Bool, true, false, ◌&&◌, not, false≢true}
 use Rattle.std.specs.Prelude.{Option, None, Some}
 use lib.Dec.{eqb}
 use lib.ListN.{take}
-use Rattle.names.specs.Bytes.{Bytes, same}
+use Rattle.names.specs.Bytes.{Bytes, same, starts_with}
 use Rattle.names.specs.Name.{under_refs, remote_head}
 use Rattle.names.specs.WellFormed.{well_formed}
 use Rattle.names.specs.Category.{is_private}
+use Rattle.names.specs.Namespace.{expansion}
 use Rattle.names.specs.Route.{Base, own, shared, route}
 use borrow.Author.Tests.{eqb-true, not-true}
 use Rattle.names.proofs.Tests.{and_left, and_right}
 use Rattle.names.proofs.Orders.{same_eq}
 use Rattle.blocks.specs.Content.{object, symbolic, Reading, reads, unreadable, lower_case, read}
 use Rattle.blocks.specs.Snapshot.{Snapshot, or_empty, is_there, region_at, size_check, store, store_flaw, Fit}
-use Rattle.claims.specs.Demand3.{Held, held_in, Agree, PackedId}
+use Rattle.claims.specs.Demand3.{Held, held_in, Agree, remainder, read_in, PackedId}
 use Rattle.claims.proofs.Computing.{refs_compute}
-use Rattle.claims.proofs.Concrete.{all_of, AllOf, names_in, names_of, flat_names, flat_by, covers, each_by}
-use Rattle.claims.proofs.LeftOut.{Premise, both_fit, no_directory, shared_names, under_refs_only, not_remote_heads, same_id, where_search_reads, no_other_block, worktree_alike, others_agree, both_or_neither_common, kept, Keeps, Where, LooseIn, HasBut, DifferBut, CutBut}
+use Rattle.claims.proofs.Concrete.{all_of, AllOf, names_in, names_of, flat_names, flat_by, once_names, once_by, covers, each_by}
+use Rattle.claims.proofs.LeftOut.{Premise, both_fit, no_directory, shared_names, under_refs_only, not_remote_heads, same_id, where_search_reads, no_other_block, worktree_alike, others_agree, both_or_neither_common, twice_over, kept, Keeps, Where, LooseIn, HasBut, DifferBut, CutBut}
 
 -- ---- tests, and what they tell
 
@@ -48,6 +49,24 @@ keeps out p {A} t f h = go (kept out p) h
     go : (k : Bool) → (if k then t else true) ≡ true → Where k A
     go true h = f h
     go false h = tt
+
+-- ---- fitness
+
+none_by : {A : Type 0} (o : Option A) → not (is_there o) ≡ true → o ≡ None
+none_by None h = refl
+none_by (Some a) h = absurd (false≢true h)
+
+module _ (width : ℕ) where
+  unfoldable pub fit_test : Snapshot → Bool
+  fit_test u = not (is_there (size_check u)) && not (is_there (store_flaw (store width u)))
+
+  fit_by : (u : Snapshot) → fit_test u ≡ true → Fit width u
+  unfolding fit_test
+  fit_by u h =
+      record {
+        sizes = none_by (size_check u) (and_left (not (is_there (size_check u))) _ h);
+        flawless = none_by (store_flaw (store width u)) (and_right (not (is_there (size_check u))) _ h);
+      }
 
 -- ---- equality of what is compared
 
@@ -121,7 +140,7 @@ pub record Line : Type 0 where
   pub how : How
   pub how' : How
 
-module _ (out : Option Premise) (width : ℕ) where
+module _ (out : Option Premise) (width : ℕ) (namespace : Option Bytes) where
   -- the one block is loose and decodes to the id; the one block is a record with it
   unfoldable pub is_loose : List Held → Bytes → Bool
   is_loose [] id = false
@@ -134,24 +153,28 @@ module _ (out : Option Premise) (width : ℕ) where
   is_packed (h ∷ g ∷ l) id = false
 
   module _ (s : Snapshot) (n : Bytes) where
+    -- where the name sought whole is read
+    abbrev read_base : Base
+    read_base = (route (remainder namespace n)).base
+
     unfoldable pub loose_test : Bytes → Base → Bool
-    loose_test id b = if_kept out where_search_reads (same_base b (route n).base) && is_loose (held_in (region_at b s) n) id
+    loose_test id b = if_kept out where_search_reads (same_base b read_base) && is_loose (held_in (region_at b s) n) id
 
     unfoldable pub has_test : Bytes → How → Bool
     has_test id (loose b) = loose_test id b && same_held (held_in s.packed n) []
     has_test id (over_stale b stale) = loose_test id b && is_packed (held_in s.packed n) stale
-    has_test id packed = is_packed (held_in s.packed n) id && if_kept out no_other_block (same_held (held_in (region_at (route n).base s) n) [])
+    has_test id packed = is_packed (held_in s.packed n) id && if_kept out no_other_block (same_held (held_in (read_in namespace s n) n) [])
 
-    loose_by : (id : Bytes) (b : Base) → loose_test id b ≡ true → LooseIn out width s n id
+    loose_by : (id : Bytes) (b : Base) → loose_test id b ≡ true → LooseIn out width namespace s n id
     unfolding loose_test is_loose
-    loose_by id b h = go (held_in (region_at b s) n) refl (and_right (if_kept out where_search_reads (same_base b (route n).base)) _ h)
+    loose_by id b h = go (held_in (region_at b s) n) refl (and_right (if_kept out where_search_reads (same_base b read_base)) _ h)
       where
-        go : (l : List Held) → held_in (region_at b s) n ≡ l → is_loose l id ≡ true → LooseIn out width s n id
+        go : (l : List Held) → held_in (region_at b s) n ≡ l → is_loose l id ≡ true → LooseIn out width namespace s n id
         go [] e k = absurd (false≢true k)
         go (g ∷ []) e k =
             record {
               base = b;
-              is_read = keeps out where_search_reads (same_base b (route n).base) (base_eq b (route n).base) (and_left (if_kept out where_search_reads (same_base b (route n).base)) _ h);
+              is_read = keeps out where_search_reads (same_base b read_base) (base_eq b read_base) (and_left (if_kept out where_search_reads (same_base b read_base)) _ h);
               content = g.content;
               there = e ∙ ap₂ ◌∷◌ (held_eq g (block 1 g.content) (eqb-true g.kind 1 (and_left (eqb g.kind 1) _ k)) refl) refl;
               decodes = reads_id_eq (read width g.content) id (and_right (eqb g.kind 1) _ k);
@@ -172,7 +195,7 @@ module _ (out : Option Premise) (width : ℕ) where
             }
         go (g ∷ f ∷ l) e k = absurd (false≢true k)
 
-    has_by : (id : Bytes) (h : How) → has_test id h ≡ true → HasBut out width s n id
+    has_by : (id : Bytes) (h : How) → has_test id h ≡ true → HasBut out width namespace s n id
     unfolding has_test
     has_by id (loose b) k = HasBut.loose (loose_by id b (and_left (loose_test id b) _ k)) (same_held_eq _ [] (and_right (loose_test id b) _ k))
     has_by id (over_stale b stale) k = HasBut.over_stale (loose_by id b (and_left (loose_test id b) _ k)) stale (packed_by stale (and_right (loose_test id b) _ k))
@@ -182,10 +205,11 @@ module _ (out : Option Premise) (width : ℕ) where
     -- the tests of a line, in the order of DifferBut
     unfoldable pub line_tests : Line → List Bool
     line_tests l =
-        well_formed l.name
-        ∷ if_kept out shared_names (not (is_private l.name))
-        ∷ if_kept out under_refs_only (under_refs l.name)
-        ∷ if_kept out not_remote_heads (not (remote_head l.name))
+        starts_with (expansion namespace) l.name
+        ∷ well_formed (remainder namespace l.name)
+        ∷ if_kept out shared_names (not (is_private (remainder namespace l.name)))
+        ∷ if_kept out under_refs_only (under_refs (remainder namespace l.name))
+        ∷ if_kept out not_remote_heads (not (remote_head (remainder namespace l.name)))
         ∷ if_kept out same_id (same l.id' l.id)
         ∷ has_test s l.name l.id l.how
         ∷ has_test t l.name l.id' l.how'
@@ -196,21 +220,22 @@ module _ (out : Option Premise) (width : ℕ) where
     alike_by n true h e = same_held_eq _ _ h
     alike_by n false h e = absurd (false≢true e)
 
-    differ_by : (l : Line) → all_true (line_tests l) ≡ true → DifferBut out width s t l.name
+    differ_by : (l : Line) → all_true (line_tests l) ≡ true → DifferBut out width namespace s t l.name
     unfolding line_tests
     differ_by l h =
         let k = passed (line_tests l) h in
         record {
-          good = k.0;
-          is_shared = keeps out shared_names _ (not-true (is_private l.name)) k.1.0;
-          under = keeps out under_refs_only _ (λ e. e) k.1.1.0;
-          not_remote_head = keeps out not_remote_heads _ (not-true (remote_head l.name)) k.1.1.1.0;
+          inside = k.0;
+          good = k.1.0;
+          is_shared = keeps out shared_names _ (not-true (is_private (remainder namespace l.name))) k.1.1.0;
+          under = keeps out under_refs_only _ (λ e. e) k.1.1.1.0;
+          not_remote_head = keeps out not_remote_heads _ (not-true (remote_head (remainder namespace l.name))) k.1.1.1.1.0;
           id = l.id;
           id' = l.id';
-          ids = keeps out same_id _ (same_eq l.id' l.id) k.1.1.1.1.0;
-          has = has_by s l.name l.id l.how k.1.1.1.1.1.0;
-          has' = has_by t l.name l.id' l.how' k.1.1.1.1.1.1.0;
-          alike = keeps out worktree_alike _ (alike_by l.name (is_there s.common)) k.1.1.1.1.1.1.1.0;
+          ids = keeps out same_id _ (same_eq l.id' l.id) k.1.1.1.1.1.0;
+          has = has_by s l.name l.id l.how k.1.1.1.1.1.1.0;
+          has' = has_by t l.name l.id' l.how' k.1.1.1.1.1.1.1.0;
+          alike = keeps out worktree_alike _ (alike_by l.name (is_there s.common)) k.1.1.1.1.1.1.1.1.0;
         }
 
     -- ---- all names
@@ -239,55 +264,44 @@ module _ (out : Option Premise) (width : ℕ) where
     listed_test [] (l ∷ ls) = all_true (line_tests l) && listed_test [] ls
     listed_test (n ∷ ns) ls = all_true (agree_tests n) && listed_test ns ls
 
-    listed_by : (ns : List Bytes) (ls : List Line) → listed_test ns ls ≡ true → AllOf (λ n. Agree s t n ⊎ DifferBut out width s t n) (listed ns ls)
+    listed_by : (ns : List Bytes) (ls : List Line) → listed_test ns ls ≡ true → AllOf (λ n. Agree s t n ⊎ DifferBut out width namespace s t n) (listed ns ls)
     unfolding listed listed_test
     listed_by [] [] h = tt
     listed_by [] (l ∷ ls) h = (inr (differ_by l (and_left (all_true (line_tests l)) _ h)), listed_by [] ls (and_right (all_true (line_tests l)) _ h))
     listed_by (n ∷ ns) ls h = (inl (agree_by n (and_left (all_true (agree_tests n)) _ h)), listed_by ns ls (and_right (all_true (agree_tests n)) _ h))
 
-    unfoldable pub fit_test : Snapshot → Bool
-    fit_test u = not (is_there (size_check u)) && not (is_there (store_flaw (store width u)))
-
-    none_by : {A : Type 0} (o : Option A) → not (is_there o) ≡ true → o ≡ None
-    none_by None h = refl
-    none_by (Some a) h = absurd (false≢true h)
-
-    fit_by : (u : Snapshot) → fit_test u ≡ true → Fit width u
-    unfolding fit_test
-    fit_by u h =
-        record {
-          sizes = none_by (size_check u) (and_left (not (is_there (size_check u))) _ h);
-          flawless = none_by (store_flaw (store width u)) (and_right (not (is_there (size_check u))) _ h);
-        }
-
     -- the tests of the premises, in the order of CutBut
     unfoldable pub cut_tests : List Bytes → List Line → List Bool
     cut_tests ns ls =
-        if_kept out both_fit (fit_test s)
-        ∷ fit_test t
+        if_kept out both_fit (fit_test width s)
+        ∷ fit_test width t
         ∷ if_kept out no_directory (flat_names (names_of s))
         ∷ if_kept out no_directory (flat_names (names_of t))
+        ∷ if_kept out twice_over (once_names namespace (names_of s))
+        ∷ if_kept out twice_over (once_names namespace (names_of t))
         ∷ if_kept out others_agree (covers (listed ns ls) s t && listed_test ns ls)
         ∷ if_kept out both_or_neither_common (same_bool (is_there s.common) (is_there t.common))
         ∷ []
 
-    pub cut_by : (ns : List Bytes) (ls : List Line) → all_true (cut_tests ns ls) ≡ true → CutBut out width s t
+    pub cut_by : (ns : List Bytes) (ls : List Line) → all_true (cut_tests ns ls) ≡ true → CutBut out width namespace s t
     unfolding cut_tests
     cut_by ns ls h =
         let k = passed (cut_tests ns ls) h in
         record {
-          fit = keeps out both_fit (fit_test s) (fit_by s) k.0;
-          fit' = fit_by t k.1.0;
+          fit = keeps out both_fit (fit_test width s) (fit_by width s) k.0;
+          fit' = fit_by width t k.1.0;
           flat = keeps out no_directory (flat_names (names_of s)) (flat_by s) k.1.1.0;
           flat' = keeps out no_directory (flat_names (names_of t)) (flat_by t) k.1.1.1.0;
+          once = keeps out twice_over (once_names namespace (names_of s)) (once_by namespace s) k.1.1.1.1.0;
+          once' = keeps out twice_over (once_names namespace (names_of t)) (once_by namespace t) k.1.1.1.1.1.0;
           each =
               keeps out others_agree (covers (listed ns ls) s t && listed_test ns ls)
-              (λ e. each_by s t (DifferBut out width s t) (listed ns ls) (and_left (covers (listed ns ls) s t) _ e) (listed_by ns ls (and_right (covers (listed ns ls) s t) _ e)))
-              k.1.1.1.1.0;
-          same_common = keeps out both_or_neither_common (same_bool (is_there s.common) (is_there t.common)) (bool_eq (is_there s.common) (is_there t.common)) k.1.1.1.1.1.0;
+              (λ e. each_by s t (DifferBut out width namespace s t) (listed ns ls) (and_left (covers (listed ns ls) s t) _ e) (listed_by ns ls (and_right (covers (listed ns ls) s t) _ e)))
+              k.1.1.1.1.1.1.0;
+          same_common = keeps out both_or_neither_common (same_bool (is_there s.common) (is_there t.common)) (bool_eq (is_there s.common) (is_there t.common)) k.1.1.1.1.1.1.1.0;
         }
 
 -- where this is unfolded, the tests compute
 unfoldable pub tests_compute : Unit {0}
-unfolding refs_compute all_of names_in names_of flat_names covers same_bool same_base same_held reads_id is_loose is_packed loose_test has_test line_tests agree_tests listed listed_test fit_test cut_tests
+unfolding refs_compute all_of names_in names_of flat_names once_names covers same_bool same_base same_held reads_id is_loose is_packed loose_test has_test line_tests agree_tests listed listed_test fit_test cut_tests
 tests_compute = tt

@@ -13,19 +13,34 @@ use Rattle.refs.specs.Search.{answers}
 use Rattle.blocks.specs.Snapshot.{Snapshot}
 use lib.ListN.{replicate}
 use mathlib.Core.Bool.{true}
-use mathlib.Core.List.{List, ◌++◌}
-use Rattle.std.specs.Prelude.{None, Some}
+use mathlib.Core.List.{List, [], ◌++◌}
+use Rattle.std.specs.Prelude.{Option, None, Some}
 use mathlib.Core.Path.{◌≡◌}
 
--- a symbolic reference, a loose file and a packed record, with ids of one digit
+-- a symbolic reference, a loose file and a packed record, with ids of one digit, behind the expansion e, the target too
+module _ (e : Bytes) where
+  abbrev pub points_in : String → String → Bytes
+  points_in n t = make 1 (e ++ bytes n) (bytes "ref: " ++ (e ++ bytes t))
+
+  abbrev pub file_in : String → ℕ → Bytes
+  file_in n d = make 1 (e ++ bytes n) (replicate 40 d)
+
+  abbrev pub packed_in : String → ℕ → Bytes
+  packed_in n d = make 4 (e ++ bytes n) (replicate 40 d)
+
+-- and without a namespace
 abbrev pub points : String → String → Bytes
-points n t = make 1 (bytes n) (bytes "ref: " ++ bytes t)
+points = points_in []
 
 abbrev pub file : String → ℕ → Bytes
-file n d = make 1 (bytes n) (replicate 40 d)
+file = file_in []
 
 abbrev pub packed : String → ℕ → Bytes
-packed n d = make 4 (bytes n) (replicate 40 d)
+packed = packed_in []
+
+-- the namespace n
+abbrev pub namespace_n : Option Bytes
+namespace_n = Some (bytes "n")
 
 -- a snapshot of one loose region and a packed one
 abbrev pub snap : Bytes → Bytes → Snapshot

@@ -1,4 +1,5 @@
 -- The listing of two snapshots that differ by a cut: equal tables at the opening.
+use Rattle.std.specs.Prelude.{if◌then◌else◌}
 use mathlib.Core.Path.{◌≡◌, refl, sym, ap₂, ◌∙◌}
 use mathlib.Core.Bool.{Bool, true, false, false≢true, true≢false}
 use mathlib.Core.Logic.{inl, inr}
@@ -9,6 +10,7 @@ use Rattle.names.specs.Bytes.{Bytes, starts_with}
 use Rattle.names.specs.WellFormed.{well_formed}
 use Rattle.names.specs.Category.{is_private}
 use Rattle.names.specs.Route.{shared}
+use Rattle.names.proofs.Tests.{not_both, none_of}
 use Rattle.blocks.specs.Content.{object}
 use Rattle.blocks.specs.Entry.{Entry, damaged, failed, loose, unread, packed_record, name_of}
 use Rattle.blocks.specs.Snapshot.{Store, or_empty, is_there, common_or, region_at}
@@ -18,7 +20,11 @@ use Rattle.refs.proofs.Clauses.{block_none}
 use Rattle.refs.proofs.Blocks.{block_bears}
 use Rattle.claims.proofs.Waits.{shows, said}
 use Rattle.claims.proofs.Least.{◌or◌}
-use Rattle.claims.proofs.StoreCut.{Alike, Holds, as_loose, as_packed, Differs, Each}
+use Rattle.claims.proofs.StoreCut.{Alike, Records, Holds, as_loose, as_packed, Differs, Each}
+
+-- there is no record of a malformed name
+unrecorded : (s : Store) → Records s → (x : Bytes) → well_formed x ≡ false → block_of x s.packed ≡ None
+unrecorded s records x g = none_of _ (λ f h. not_both (records x f h).1 g)
 
 module _ (width : ℕ) (c : Scope) where
   -- what the block of the name x in a region says, where the names of keep are kept
@@ -84,11 +90,21 @@ module _ (width : ℕ) (c : Scope) where
       go true false e = rw e
       go true true e = rw (e, g, p)
 
-  module _ (e : Bytes) (s t : Store) (both : is_there s.common ≡ is_there t.common) where
+  -- a malformed name is kept in no loose region
+  kept_malformed : (b : Bool) (x : Bytes) → well_formed x ≡ false → keep_base b x ≡ false
+  kept_malformed b x g = go b (starts_with c.loose_under x) refl
+    where
+      go : (b k : Bool) → starts_with c.loose_under x ≡ k → keep_base b x ≡ false
+      go false false e = rw e
+      go false true e = rw (e, g)
+      go true false e = rw e
+      go true true e = rw (e, g)
+
+  module _ (e : Bytes) (s t : Store) (both : is_there s.common ≡ is_there t.common) (records : Records s) (records' : Records t) where
     differs_opens : (n : Bytes) → starts_with c.loose_under (e ++ n) ≡ starts_with c.packed_under (e ++ n) → Differs width e s t n → opens s (e ++ n) ≡ opens t (e ++ n)
     differs_opens n k d =
         opens_split s (e ++ n)
-        ∙ ap₂ ◌or◌ (front (is_there s.common) (is_there t.common) both d.worktree_alike) (rest s d.holds ∙ sym (rest t d.holds'))
+        ∙ ap₂ ◌or◌ (front (is_there s.common) (is_there t.common) both d.worktree_alike) (rest s records d.holds ∙ sym (rest t records' d.holds'))
         ∙ sym (opens_split t (e ++ n))
       where
         front : (a b : Bool) → a ≡ b → (a ≡ true → block_of (e ++ n) s.worktree ≡ block_of (e ++ n) t.worktree)
@@ -98,9 +114,20 @@ module _ (width : ℕ) (c : Scope) where
         front true false q h = absurd (true≢false q)
         front true true q h = rw (h refl)
 
-        rest : (u : Store) → Holds width e u n d.id
-            → told (keep_base (is_there u.common)) (e ++ n) (region_at shared u) or told (packed_shows c) (e ++ n) u.packed ≡ id_shown (packed_shows c (e ++ n)) (e ++ n) d.id
-        rest u h = held_told e u n d.id (keep_base (is_there u.common)) (packed_shows c (e ++ n)) (kept_alike (is_there u.common) (e ++ n) d.good d.listed_shared k) refl h
+        -- the id, if the name is well formed and kept; a malformed one says nothing
+        rest : (u : Store) → Records u → Holds width e u n d.id
+            → told (keep_base (is_there u.common)) (e ++ n) (region_at shared u) or told (packed_shows c) (e ++ n) u.packed
+            ≡ (if well_formed (e ++ n) then id_shown (packed_shows c (e ++ n)) (e ++ n) d.id else None)
+        rest u r h = go (well_formed (e ++ n)) refl
+          where
+            b : Bool
+            b = is_there u.common
+
+            go : (w : Bool) → well_formed (e ++ n) ≡ w
+                → told (keep_base b) (e ++ n) (region_at shared u) or told (packed_shows c) (e ++ n) u.packed
+                ≡ (if w then id_shown (packed_shows c (e ++ n)) (e ++ n) d.id else None)
+            go true w = held_told e u n d.id (keep_base b) (packed_shows c (e ++ n)) (kept_alike b (e ++ n) w d.listed_shared k) refl h
+            go false w = rw (untold (keep_base b) (e ++ n) (kept_malformed b (e ++ n) w) (region_at shared u), unrecorded u r (e ++ n) w)
 
     -- under any scope that shows a differing name loose where it shows it packed
     pub same_opens : ((n : Bytes) → Differs width e s t n → starts_with c.loose_under (e ++ n) ≡ starts_with c.packed_under (e ++ n))

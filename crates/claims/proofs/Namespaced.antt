@@ -23,8 +23,8 @@ use Rattle.claims.proofs.FollowingCut.{same_following}
 module _ (width : ℕ) (s t : Snapshot) (fit : Fit width s) (fit' : Fit width t) where
   -- behind an expansion that is not empty, a name is shown loose where it is shown packed
   opens_in : (e : Bytes) → StoreCut width e (store width s) (store width t) → (n : Bytes) → opens width (scope e) (store width s) n ≡ opens width (scope e) (store width t) n
-  opens_in [] c = same_opens width (scope []) [] (store width s) (store width t) c.same_common (λ m d. d.under ∙ sym (starts_append [] m)) c.each
-  opens_in (b ∷ e) c = same_opens width (scope (b ∷ e)) (b ∷ e) (store width s) (store width t) c.same_common (λ m d. refl) c.each
+  opens_in [] c = same_opens width (scope []) [] (store width s) (store width t) c.same_common c.records c.records' (λ m d. d.under ∙ sym (starts_append [] m)) c.each
+  opens_in (b ∷ e) c = same_opens width (scope (b ∷ e)) (b ∷ e) (store width s) (store width t) c.same_common c.records c.records' (λ m d. refl) c.each
 
   module _ (namespace : Option Bytes) (c : StoreCut width (expansion namespace) (store width s) (store width t)) where
     abbrev e : Bytes

@@ -57,7 +57,7 @@ module _ (width : ℕ) (e : Bytes) (s : Store) where
     record_is : (b : Bool) (q : Option Bytes) (f : Entry) → record_of e s b q ≡ Some f → IsRecord f
     record_is false q f h = none≢Some h
     record_is true None f h = none≢Some h
-    record_is true (Some q) f h = records _ f h
+    record_is true (Some q) f h = (records _ f h).0
 
     honest_deciding : (c : Bytes) (b : Bool) (o r : Option Entry) → file_of e s c ≡ o → ((f : Entry) → r ≡ Some f → IsRecord f) → Honest (answer_of width e c (deciding b o r))
     honest_deciding c true o r h i = tt

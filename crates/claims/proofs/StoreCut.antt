@@ -22,9 +22,9 @@ pub record Alike (s t : Store) (n : Bytes) : Type 0 where
   pub in_common : block_of n (or_empty s.common) ≡ block_of n (or_empty t.common)
   pub in_packed : block_of n s.packed ≡ block_of n t.packed
 
--- what a packed region has of a name is a record
+-- what a packed region has of a name is a record, and the name is well formed
 abbrev pub Records : Store → Type 0
-Records s = (n : Bytes) (f : Entry) → block_of n s.packed ≡ Some f → IsRecord f
+Records s = (n : Bytes) (f : Entry) → block_of n s.packed ≡ Some f → IsRecord f × (well_formed n ≡ true)
 
 unfoldable pub held : Store → Bytes → Bool
 held s n = is_there (block_of n s.worktree) || is_there (block_of n (or_empty s.common)) || is_there (block_of n s.packed)
@@ -37,7 +37,6 @@ module _ (width : ℕ) (e : Bytes) where
         → block_of (e ++ n) s.packed ≡ Some (packed_record (e ++ n) t p) → lower_case t ≡ id → Holds s n id
 
   pub record Differs (s t : Store) (n : Bytes) : Type 0 where
-    pub good : well_formed (e ++ n) ≡ true
     pub listed_shared : is_private (e ++ n) ≡ false
     pub is_shared : is_private n ≡ false
     pub under : under_refs n ≡ true
@@ -87,7 +86,6 @@ module _ (width : ℕ) (e : Bytes) where
             w.0,
             w.1,
             record {
-              good = d.good;
               listed_shared = d.listed_shared;
               is_shared = d.is_shared;
               under = d.under;
