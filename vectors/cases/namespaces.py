@@ -1,6 +1,6 @@
-"""Document 01, 'Search' in a namespace, and paths over 250 bytes."""
+"""Document 01, 'Search' in a namespace, and paths over 250 bytes; document 02, 'Cuts inside a namespace'."""
 
-from table import oid, record, ref
+from table import oid, record, ref, rising
 
 N = "refs/namespaces/n/"
 
@@ -8,6 +8,8 @@ N = "refs/namespaces/n/"
 def write(t):
     write_namespaces(t)
     write_long_paths(t)
+    write_cuts(t)
+    write_no_cuts(t)
 
 
 def write_namespaces(t):
@@ -88,3 +90,54 @@ def write_long_paths(t):
     t.snapshot(packed=packed, namespace="n" * 233)
     t.ask(f"find 'refs/heads/{'a' * 239}'", "absent")
     t.ask("find 'a'", "absent")
+
+
+def write_cuts(t):
+    t.note("a cut in a namespace: a branch loose over a stale record, or packed; stripped, and answered alike")
+    head = ref(N + "HEAD", N + "refs/heads/a")
+    for common, packed in (([oid(N + "refs/heads/a", "1")], record(N + "refs/heads/a", "2", "3")),
+                           ([], record(N + "refs/heads/a", "1"))):
+        t.snapshot(worktree=[head], common=common, packed=[packed], namespace="n")
+        t.ask("follow 'HEAD'", "id #1 'refs/heads/a'")
+        t.ask("find 'refs/heads/a'", "found 'refs/heads/a' object #1 ~")
+        t.ask("list 3", "ref 'HEAD' symbolic 'refs/heads/a' ~ at 1 0 0",
+              f"ref 'refs/heads/a' object #1 ~ at 1 {len(common)} 1", f"ended at 1 {len(common)} 1")
+    t.note("refs/remotes/HEAD, with nothing between, may be packed as well")
+    for cut in ({"worktree": [oid(N + "refs/remotes/HEAD", "1")]}, {"packed": [record(N + "refs/remotes/HEAD", "1")]}):
+        t.snapshot(namespace="n", **cut)
+        t.ask("follow 'remotes/HEAD'", "id #1 'refs/remotes/HEAD'")
+
+
+def write_no_cuts(t):
+    t.note("no cut, the expansion twice over: a loose answer bears the candidate's name, a packed one the record's")
+    chain = [ref(N + "HEAD", N + "refs/heads/m"), ref(N + "refs/heads/m", N + N + "refs/heads/m")]
+    for loose, packed, followed in (([oid(N + N + "refs/heads/m", "1")], [], "refused 14 'refs/heads/m'"),
+                                    ([], [record(N + N + "refs/heads/m", "1")], f"id #1 '{N}refs/heads/m'")):
+        t.snapshot(worktree=rising(*chain, *loose), packed=packed, namespace="n")
+        t.ask("follow 'HEAD'", followed)
+        end = f"{2 + len(loose)} 0 {len(packed)}"
+        t.ask("list 4", "ref 'HEAD' symbolic 'refs/heads/m' ~ at 1 0 0",
+              f"ref 'refs/heads/m' symbolic '{N}refs/heads/m' ~ at 2 0 0",
+              f"ref '{N}refs/heads/m' object #1 ~ at {end}", f"ended at {end}")
+    t.note("no cut, though the name twice over is alike in both: its file is answered refs/heads/a, as is the record")
+    seen = [ref(N + "HEAD", N + N + "refs/heads/a"), ref(N + N + "refs/heads/a", "main-worktree/refs/heads/a")]
+    t.snapshot(worktree=rising(*seen, oid(N + "refs/heads/a", "1")), namespace="n")
+    t.ask("follow 'HEAD'", "id #1 'main-worktree/refs/heads/a'")
+    t.snapshot(worktree=rising(*seen), packed=[record(N + "refs/heads/a", "1")], namespace="n")
+    t.ask("follow 'HEAD'", "refused 14 'refs/heads/a'")
+    t.note("no cut, the remainder is private, though the whole name is not: never sought packed, or not read in common")
+    for name in ("HEAD", "refs/worktree/x"):
+        t.snapshot(worktree=[oid(N + name, "1")], namespace="n")
+        t.ask(f"follow '{name}'", f"id #1 '{name}'")
+        t.snapshot(packed=[record(N + name, "1")], namespace="n")
+        t.ask(f"follow '{name}'", "absent")
+    t.snapshot(common=[oid(N + "refs/bisect/x", "1")], namespace="n")
+    t.ask("follow 'refs/bisect/x'", "absent")
+    t.snapshot(common=[], packed=[record(N + "refs/bisect/x", "1")], namespace="n")
+    t.ask("follow 'refs/bisect/x'", "id #1 'refs/bisect/x'")
+    t.note("no cut, the remainder is refs/remotes/../HEAD, or not under refs/: for o and refs/a never sought packed")
+    for name, sought in (("refs/remotes/o/HEAD", "o"), ("remotes/refs/a/HEAD", "refs/a")):
+        t.snapshot(worktree=[oid(N + name, "1")], namespace="n")
+        t.ask(f"follow '{sought}'", f"id #1 '{name}'")
+        t.snapshot(packed=[record(N + name, "1")], namespace="n")
+        t.ask(f"follow '{sought}'", "absent")
