@@ -1,5 +1,5 @@
 -- The premises of demand 3 on a snapshot that is written out: each is a test over the names that its blocks bear.
-use Rattle.std.specs.Prelude.{if◌then◌else◌, if◌then◌else◌}
+use Rattle.std.specs.Prelude.{if◌then◌else◌}
 use mathlib.Core.Path.{◌≡◌, refl, sym, subst, ◌∙◌}
 use mathlib.Core.Logic.{◌⊎◌, inl}
 use mathlib.Core.List.{List, [], ◌∷◌, ◌++◌}
