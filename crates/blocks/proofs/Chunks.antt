@@ -7,14 +7,13 @@ use mathlib.Core.List.{List, [], ◌∷◌, map}
 use borrow.Author.Tests.{lt-ltb}
 use lib.ListN.{length, take, drop, get_or}
 use lib.Seq.{take_all, drop-drop}
-use Rattle.std.specs.Prelude.{Some}
 use Rattle.std.specs.List.{HoldsAt}
 use Rattle.std.specs.Simd.{first_chunks}
 use Rattle.names.specs.Bytes.{Bytes}
 use Rattle.blocks.specs.Layout.{block_size}
 use Rattle.blocks.specs.Block.{Region}
 use Rattle.blocks.specs.Entry.{entry, first_blocks, blocks, entries}
-use Rattle.blocks.specs.Means.{block_at, block_count, taken_entry, name_within, content_within, name_in, content_in, taken_in}
+use Rattle.blocks.specs.Means.{block_at, block_count, name_within, name_in}
 use Rattle.blocks.proofs.Parts.{length_block}
 
 -- what `s.as_chunks::<BLOCK_SIZE>().0` holds
@@ -80,18 +79,6 @@ module _ (b : Bytes) (l : length b ≡ block_size) where
   pub name_of_chunk : name_in b 0 ≡ name_within b
   name_of_chunk = rw (one_block, block_whole)
 
-  pub content_of_chunk : content_in b 0 ≡ content_within b
-  content_of_chunk = rw (one_block, block_whole)
-
-  pub taken_of_chunk : (width : ℕ) → taken_in width b 0 ≡ Some (taken_entry width b)
-  taken_of_chunk width = rw (one_block, block_whole)
-
 module _ (s : Bytes) (k : ℕ) (h : k < block_count s) where
   pub name_of_block : name_in (block_at s k) 0 ≡ name_in s k
   name_of_block = name_of_chunk (block_at s k) (length_block s k h) ∙ rw (lt-ltb k (block_count s) h)
-
-  pub content_of_block : content_in (block_at s k) 0 ≡ content_in s k
-  content_of_block = content_of_chunk (block_at s k) (length_block s k h) ∙ rw (lt-ltb k (block_count s) h)
-
-  pub taken_of_block : (width : ℕ) → taken_in width (block_at s k) 0 ≡ taken_in width s k
-  taken_of_block width = taken_of_chunk (block_at s k) (length_block s k h) width ∙ rw (lt-ltb k (block_count s) h)

@@ -14,7 +14,7 @@ use Rattle.names.specs.Route.{packed_name}
 use Rattle.blocks.specs.Entry.{Entry, name_of}
 use Rattle.blocks.specs.Snapshot.{Snapshot, Store, store, or_empty, size_check, store_flaw}
 use Rattle.refs.specs.Answer.{Reference, nothing, bears, block_of}
-use Rattle.refs.specs.Search.{directory_of, clashes, deciding, region_of, path_of, file_of, record_of, entry_for, answer_of, or_next, lookup, first_answer, search, after_checks, call_check}
+use Rattle.refs.specs.Search.{directory_of, clashes, deciding, region_of, path_of, file_of, record_of, entry_for, answer_of, or_next, lookup, first_answer, search, after_checks, call_check, find}
 use Rattle.refs.specs.Follow.{stopped, among, on_target, on_answer, follow_from, follow_answer, following, follow}
 use Rattle.refs.specs.View.{Seen, View, scope, view}
 use Rattle.refs.specs.Listing.{none_left, first_seen, first_waiting, peek, choose, Positions, move}
@@ -90,6 +90,11 @@ module _ (n : Bytes) where
   pub among_next : (m : Bytes) (l : List Bytes) → among n (m ∷ l) ≡ (same m n || among n l)
   unfolding among
   among_next m l = refl
+
+pub find_is : (width : ℕ) (s : Snapshot) (x : Bytes) (namespace : Option Bytes) → find width s x namespace
+    ≡ after_checks (call_check s x namespace) (store_flaw (store width s)) (search width (expansion namespace) (store width s) x)
+unfolding find
+find_is width s x namespace = refl
 
 pub follow_is : (width : ℕ) (s : Snapshot) (x : Bytes) (namespace : Option Bytes) → follow width s x namespace
     ≡ after_checks (call_check s x namespace) (store_flaw (store width s)) (following width (expansion namespace) (store width s) x)

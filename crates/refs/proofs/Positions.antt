@@ -13,7 +13,7 @@ use Rattle.blocks.specs.Entry.{Entry}
 use Rattle.blocks.specs.Snapshot.{Snapshot, Store, store, or_empty, size_check}
 use Rattle.blocks.proofs.Sizes.{Few, few}
 use Rattle.refs.specs.View.{Seen, View, scope, view}
-use Rattle.refs.specs.Listing.{Waiting, none_left, error, named, peek, Offer, least, if_same, past, Positions, Move, error_else, by_name, choose, move}
+use Rattle.refs.specs.Listing.{Waiting, none_left, error, named, peek, Offer, first_of, if_same, past, Positions, Move, error_else, by_name, choose, move}
 use Rattle.refs.proofs.Moves.{Within, first_within}
 use Rattle.refs.specs.Run.{State, moved, unless_ended, unless_refused, step}
 
@@ -72,7 +72,7 @@ choose_at_most m w c p at hw hc hp h =
     error_at_most m p _ _ hp (λ i k. record { worktree = h.worktree; common = h.common; packed = k })
     (error_at_most m c _ _ hc (λ i k. record { worktree = h.worktree; common = k; packed = h.packed })
     (error_at_most m w _ _ hw (λ i k. record { worktree = k; common = h.common; packed = h.packed })
-    (by_name_at_most m (least w (least c (least p None))) w c p at hw hc hp h)))
+    (by_name_at_most m (first_of w c p) w c p at hw hc hp h)))
 
 move_at_most : (m : ℕ) (v : View) (s : Store) (at : Positions) → Few m s → AtMost m at → AtMost m (move v s at).next
 unfolding move
