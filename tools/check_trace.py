@@ -15,7 +15,7 @@ import pathlib, re, sys
 
 root = pathlib.Path(__file__).resolve().parent.parent
 crates = root / "crates"
-COMPUTING = ("names/Rules", "names/Tried", "blocks/Damage", *(f"claims/{m}" for m in ("Decide", "Examples", "Needed", "Pair", "Surprises", "Table")))
+COMPUTING = ("names/Rules", "names/Tried", "blocks/Damage", *(f"claims/{m}" for m in ("Decide", "Examples", "ListSearchNeeded", "Needed", "Pair", "Surprises", "Table")))
 ITEM = r'^\s*(?:pub(?:\(crate\))? )?(?:extern "C" )?(fn|struct|enum|const|type) (\w+)'
 IMPL = r"impl(?:<[^>]*>)? (?:([\w:]+)(?:<(.*)>)? for )?(.*?) (?:where .*)?\{"
 

@@ -48,17 +48,19 @@ module _ (width : ℕ) (r : Region) where
   region_entry : (n s : Bytes) → Sorted None (entries width r s) → block_of n (entries width r s) ≡ first_entry width n (held_in s n)
   region_entry n s h = rw (entries_are width r s) (blocks_entry n (blocks s) (rw (entries_are width r s) at h))
 
--- the record of a name is that of a packed block
-record_made : (width : ℕ) (n : Bytes) (f : Entry) (l : List Bytes) → block_of n (map (entry width Region.packed) l) ≡ Some f → (b : Bytes) × (entry width Region.packed b ≡ f)
-record_made width n f [] h = none≢Some (sym (block_none n) ∙ h)
-record_made width n f (x ∷ l) h =
-    if_eq (bears n (name_of (entry width Region.packed x))) (sym (block_more n (entry width Region.packed x) (map (entry width Region.packed) l)) ∙ h)
-    (λ b k. (x, cc)) (λ b k. record_made width n f l k)
+-- the block of a name is one of the region's
+block_made : (width : ℕ) (r : Region) (n : Bytes) (f : Entry) (l : List Bytes) → block_of n (map (entry width r) l) ≡ Some f → (b : Bytes) × (entry width r b ≡ f)
+block_made width r n f [] h = none≢Some (sym (block_none n) ∙ h)
+block_made width r n f (x ∷ l) h =
+    if_eq (bears n (name_of (entry width r x))) (sym (block_more n (entry width r x) (map (entry width r) l)) ∙ h) (λ b k. (x, cc)) (λ b k. block_made width r n f l k)
+
+pub region_made : (width : ℕ) (r : Region) (n : Bytes) (f : Entry) (s : Bytes) → block_of n (entries width r s) ≡ Some f → (b : Bytes) × (entry width r b ≡ f)
+region_made width r n f s h = block_made width r n f (blocks s) (rw (entries_are width r s) at h)
 
 -- what a packed region has of a name is a record, and the name is well formed
 pub records_of : (width : ℕ) (s : Snapshot) → Records (store width s)
 records_of width s n f h =
-    let m = record_made width n f (blocks s.packed) (rw (store_is width s, entries_are width Region.packed s.packed) at h) in
+    let m = region_made width Region.packed n f s.packed (rw (store_is width s) at h) in
     let e : name_of (entry width Region.packed m.0) ≡ Some n = rw m.1 (block_bears n f (store width s).packed h) in
     (rw (← m.1) (packed_entry width m.0 n e), packed_good width m.0 n e)
 
@@ -92,7 +94,7 @@ module _ (width : ℕ) (s : Snapshot) (o : Ordered (store width s)) (n : Bytes) 
       go None h = rw (store_is width s) at in_worktree
       go (Some c) h = region_entry width Region.common n c h
 
-  there : (l : List Held) → is_there (first_entry width n l) ≡ some_held l
+  pub there : (l : List Held) → is_there (first_entry width n l) ≡ some_held l
   there [] = refl
   there (h ∷ l) = refl
 

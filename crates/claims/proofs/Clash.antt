@@ -62,7 +62,7 @@ alike_region s t e n a shared = go s.common t.common e a.in_common
     go (Some c) None e g = absurd (true≢false e)
     go (Some c) (Some d) e g = g
 
-held_region : (s : Store) (n : Bytes) (b : Base) (f : Entry) → block_of n (region_at b s) ≡ Some f → held s n ≡ true
+pub held_region : (s : Store) (n : Bytes) (b : Base) (f : Entry) → block_of n (region_at b s) ≡ Some f → held s n ≡ true
 unfolding held
 held_region s n own f h = rw h
 held_region s n shared f h = rw (go s.common h)
@@ -71,9 +71,14 @@ held_region s n shared f h = rw (go s.common h)
     go None h = rw h
     go (Some c) h = rw (h, or-true)
 
-held_packed : (s : Store) (n : Bytes) (f : Entry) → block_of n s.packed ≡ Some f → held s n ≡ true
+pub held_packed : (s : Store) (n : Bytes) (f : Entry) → block_of n s.packed ≡ Some f → held s n ≡ true
 unfolding held
 held_packed s n f h = rw (h, or-true)
+
+-- a held name has no directory among the files
+pub no_clash : (s : Store) → ((m n : Bytes) → held s m ≡ true → held s n ≡ true → directory m n ≡ false) → (n : Bytes) → held s n ≡ true → (b : Base) → clashes n (region_at b s) ≡ false
+no_clash s flat n k b =
+    false_from_ne_true (clashes n (region_at b s)) (λ h. let c = clash_of n (region_at b s) h in not_both c.above (flat c.dir n (held_region s c.dir b c.block c.borne) k))
 
 module _ (width : ℕ) (e : Bytes) where
   holds_held : (s : Store) (n id : Bytes) → Holds width e s n id → held s (e ++ n) ≡ true

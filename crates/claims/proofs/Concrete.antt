@@ -1,4 +1,4 @@
--- The premises of demand 3 on a snapshot that is written out: each is a test over the names that its blocks bear.
+-- Premises on a snapshot that is written out: each is a test over the names that its blocks bear.
 use Rattle.std.specs.Prelude.{if◌then◌else◌}
 use mathlib.Core.Path.{◌≡◌, refl, sym, subst, ◌∙◌}
 use mathlib.Core.Logic.{◌⊎◌, inl}
@@ -17,7 +17,7 @@ use Rattle.blocks.specs.Entry.{blocks}
 use Rattle.blocks.specs.Snapshot.{Snapshot, or_empty}
 use Rattle.refs.specs.Follow.{among}
 use Rattle.refs.proofs.Clauses.{among_none, among_next}
-use Rattle.claims.specs.Demand3.{is_named, held_by, bearing, held_in, is_held, Flat, Once, Agree}
+use Rattle.claims.specs.Demand3.{is_named, held_by, bearing, held_in, some_held, is_held, Flat, Once, Agree}
 
 -- ---- lists of names
 
@@ -66,6 +66,13 @@ bearing_none n (b ∷ l) h = go (is_named b) h (bearing_none n l)
         → (if k && same (block_name b) n then held_by b ∷ bearing n l else bearing n l) ≡ []
     go false h ih = ih h
     go true h ih = let f = or_parts (same (block_name b) n) _ (sym (among_next n (block_name b) (names_in l)) ∙ h) in rw f.0 (ih f.1)
+
+pub among_bearing : (n : Bytes) (l : List Bytes) → some_held (bearing n l) ≡ true → among n (names_in l) ≡ true
+among_bearing n l h = go (among n (names_in l)) refl
+  where
+    go : (b : Bool) → among n (names_in l) ≡ b → b ≡ true
+    go true e = refl
+    go false e = not_both h (rw (bearing_none n l e) refl)
 
 -- a name that no block bears
 record Absent (s : Snapshot) (n : Bytes) : Type 0 where

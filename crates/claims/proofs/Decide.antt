@@ -5,7 +5,7 @@ use mathlib.Core.Logic.{◌⊎◌, inl, inr}
 use Prim.Native.Nat.{ℕ}
 use mathlib.Core.List.{List, [], ◌∷◌}
 use mathlib.Core.Bool.{Bool, true, false, ◌&&◌, not, false≢true}
-use Rattle.std.specs.Prelude.{Option, None, Some}
+use Rattle.std.specs.Prelude.{Option}
 use lib.Dec.{eqb}
 use lib.ListN.{take}
 use Rattle.names.specs.Bytes.{Bytes, same, starts_with}
@@ -18,55 +18,20 @@ use borrow.Author.Tests.{eqb-true, not-true}
 use Rattle.names.proofs.Tests.{and_left, and_right}
 use Rattle.names.proofs.Orders.{same_eq}
 use Rattle.blocks.specs.Content.{object, symbolic, Reading, reads, unreadable, lower_case, read}
-use Rattle.blocks.specs.Snapshot.{Snapshot, or_empty, is_there, region_at, size_check, store, store_flaw, Fit}
+use Rattle.blocks.specs.Snapshot.{Snapshot, or_empty, is_there, region_at}
 use Rattle.claims.specs.Demand3.{Held, held_in, Agree, remainder, read_in, PackedId}
 use Rattle.claims.proofs.Computing.{refs_compute}
+use Rattle.claims.proofs.Tested.{all_true, passed, if_where, keeps_where, fit_test, fit_by}
 use Rattle.claims.proofs.Concrete.{all_of, AllOf, names_in, names_of, flat_names, flat_by, once_names, once_by, covers, each_by}
-use Rattle.claims.proofs.LeftOut.{Premise, both_fit, no_directory, shared_names, under_refs_only, not_remote_heads, same_id, where_search_reads, no_other_block, worktree_alike, others_agree, both_or_neither_common, twice_over, kept, Keeps, Where, LooseIn, HasBut, DifferBut, CutBut}
+use Rattle.claims.proofs.LeftOut.{Premise, both_fit, no_directory, shared_names, under_refs_only, not_remote_heads, same_id, where_search_reads, no_other_block, worktree_alike, others_agree, both_or_neither_common, twice_over, kept, Keeps, LooseIn, HasBut, DifferBut, CutBut}
 
--- ---- tests, and what they tell
+-- ---- a test that counts only where the premise is kept
 
--- every test of a list is passed
-abbrev pub all_true : List Bool → Bool
-all_true [] = true
-all_true (b ∷ l) = b && all_true l
-
-abbrev Passed : List Bool → Type 0
-Passed [] = Unit {0}
-Passed (b ∷ l) = (b ≡ true) × Passed l
-
-passed : (l : List Bool) → all_true l ≡ true → Passed l
-passed [] h = tt
-passed (b ∷ l) h = (and_left b _ h, passed l (and_right b _ h))
-
--- a test that counts only where the premise is kept
 abbrev pub if_kept : Option Premise → Premise → Bool → Bool
-if_kept out p t = if kept out p then t else true
+if_kept out p t = if_where (kept out p) t
 
 keeps : (out : Option Premise) (p : Premise) {A : Type 0} (t : Bool) → (t ≡ true → A) → if_kept out p t ≡ true → Keeps out p A
-keeps out p {A} t f h = go (kept out p) h
-  where
-    go : (k : Bool) → (if k then t else true) ≡ true → Where k A
-    go true h = f h
-    go false h = tt
-
--- ---- fitness
-
-none_by : {A : Type 0} (o : Option A) → not (is_there o) ≡ true → o ≡ None
-none_by None h = refl
-none_by (Some a) h = absurd (false≢true h)
-
-module _ (width : ℕ) where
-  unfoldable pub fit_test : Snapshot → Bool
-  fit_test u = not (is_there (size_check u)) && not (is_there (store_flaw (store width u)))
-
-  fit_by : (u : Snapshot) → fit_test u ≡ true → Fit width u
-  unfolding fit_test
-  fit_by u h =
-      record {
-        sizes = none_by (size_check u) (and_left (not (is_there (size_check u))) _ h);
-        flawless = none_by (store_flaw (store width u)) (and_right (not (is_there (size_check u))) _ h);
-      }
+keeps out p = keeps_where (kept out p)
 
 -- ---- equality of what is compared
 

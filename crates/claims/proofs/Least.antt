@@ -9,7 +9,7 @@ use Rattle.names.proofs.Orders.{flip, ◌≺◌, order_eq, order_flip, ≺_trans
 use Rattle.blocks.specs.Snapshot.{Store, or_empty}
 use Rattle.refs.specs.Answer.{Answer}
 use Rattle.refs.specs.View.{View}
-use Rattle.refs.specs.Listing.{Waiting, Offer, smaller, least, if_same, past, Positions, Move, error_else, by_name, choose}
+use Rattle.refs.specs.Listing.{Waiting, Offer, smaller, least, first_of, if_same, past, Positions, Move, error_else, by_name, choose}
 use Rattle.claims.proofs.Tables.{Table, beyond, beyond_none, Starts, Does, ends, hands}
 use Rattle.claims.proofs.Waits.{region, Waits, empty, waits}
 
@@ -36,7 +36,7 @@ beyond_or Ordering.gt a b c = refl
 
 module _ (Shown : Bytes → Bytes → Type 0) where
   -- what a table offers next
-  data Offers (t : Table) : Option Offer → Type 0 where
+  pub data Offers (t : Table) : Option Offer → Type 0 where
     offers_none : ((y : Bytes) → t y ≡ None) → Offers t None
     offers : {o : Offer} → Starts Shown t o.name o.answer → Offers t (Some o)
 
@@ -99,8 +99,12 @@ module _ (Shown : Bytes → Bytes → Type 0) where
           )
           (sym (beyond_or (order x y) (fw at.worktree y) (fc at.common y) (fp at.packed y))))
 
-      chosen : choose w c p at ≡ by_name (least w (least c (least p None))) w c p at
+      pub chosen : choose w c p at ≡ by_name (first_of w c p) w c p at
       chosen = no_error _ _ hp ∙ no_error _ _ hc ∙ no_error _ _ hw
 
+      -- what is next begins the table
+      pub offers_next : Offers (table_at at) (first_of w c p)
+      offers_next = least_offers hw (least_offers hc (last_offers hp))
+
       pub choose_does : Does Shown (table_at at) (choose w c p at).answer (table_at (choose w c p at).next)
-      choose_does = rw chosen (by_name_does (least w (least c (least p None))) (least_offers hw (least_offers hc (last_offers hp))))
+      choose_does = rw chosen (by_name_does (first_of w c p) offers_next)

@@ -3,9 +3,8 @@ use mathlib.Core.Path.{◌≡◌, refl, subst}
 use mathlib.Core.Logic.{◌⊎◌, inl, inr}
 use Prim.Native.Nat.{ℕ}
 use mathlib.Core.List.{[], ◌∷◌}
-use mathlib.Core.Bool.{Bool, true, false, not}
-use Rattle.std.specs.Prelude.{Option, None, Some}
-use lib.Dec.{eqb}
+use mathlib.Core.Bool.{Bool, true, false}
+use Rattle.std.specs.Prelude.{Option, None}
 use Rattle.names.specs.Bytes.{Bytes, starts_with}
 use Rattle.names.specs.Name.{under_refs, remote_head}
 use Rattle.names.specs.WellFormed.{well_formed}
@@ -15,6 +14,7 @@ use Rattle.names.specs.Route.{Base, route}
 use Rattle.blocks.specs.Content.{object, reads, read}
 use Rattle.blocks.specs.Snapshot.{Snapshot, is_there, region_at, Fit}
 use Rattle.claims.specs.Demand3.{held_in, Flat, Once, Agree, remainder, read_in, LooseId, PackedId, Has, Differ, Cut}
+use Rattle.claims.proofs.Tested.{kept_by, Where}
 
 -- the premises, in the words of demand 3 and of document 02, §13
 pub data Premise : Type 0 where
@@ -51,13 +51,7 @@ index twice_over = 12
 
 -- the premise p, unless it is the one left out
 abbrev pub kept : Option Premise → Premise → Bool
-kept None p = true
-kept (Some q) p = not (eqb (index q) (index p))
-
--- what has to hold where a test does
-abbrev pub Where : Bool → Type 0 → Type 0
-Where true A = A
-Where false A = Unit {0}
+kept = kept_by index
 
 abbrev pub Keeps : Option Premise → Premise → Type 0 → Type 0
 Keeps out p A = Where (kept out p) A

@@ -1,4 +1,4 @@
--- Demand 3 and what it rests on.
+-- Demand 3 and what it rests on; list and search.
 -- listing
 pub mod Tables
 pub mod Waits
@@ -18,14 +18,20 @@ pub mod Namespaced
 pub mod Bridge
 pub mod Premises
 pub mod Claims
--- by computation: the ● table, examples, a pair that meets the premises, and pairs that fail one
+-- list and search
+pub mod Reached
+pub mod ListSearch
+-- by computation: the ● table, examples, pairs and snapshots that meet the premises, and those that fail one
 pub mod Computing
 pub mod Fixtures
 pub mod Table
 pub mod Examples
 pub mod Surprises
+pub mod Tested
 pub mod Concrete
+pub mod Apart
 pub mod LeftOut
 pub mod Decide
 pub mod Pair
 pub mod Needed
+pub mod ListSearchNeeded

@@ -10,11 +10,11 @@ use Rattle.names.specs.Bytes.{Bytes, starts_with}
 use Rattle.names.specs.WellFormed.{well_formed}
 use Rattle.names.specs.Category.{is_private}
 use Rattle.names.specs.Route.{shared}
-use Rattle.names.proofs.Tests.{not_both, none_of}
+use Rattle.names.proofs.Tests.{not_both, none≢Some, none_of}
 use Rattle.blocks.specs.Content.{object}
-use Rattle.blocks.specs.Entry.{Entry, damaged, failed, loose, unread, packed_record, name_of}
+use Rattle.blocks.specs.Entry.{Entry, damaged, failed, loose, unread, packed_record}
 use Rattle.blocks.specs.Snapshot.{Store, or_empty, is_there, common_or, region_at}
-use Rattle.refs.specs.Answer.{Answer, found, strip_answer, block_of}
+use Rattle.refs.specs.Answer.{Answer, found, says, strip_answer, block_of}
 use Rattle.refs.specs.View.{shown_if, see, Scope, worktree_shows, common_shows, packed_shows}
 use Rattle.refs.proofs.Clauses.{block_none}
 use Rattle.refs.proofs.Blocks.{block_bears}
@@ -28,24 +28,28 @@ unrecorded s records x g = none_of _ (λ f h. not_both (records x f h).1 g)
 
 module _ (width : ℕ) (c : Scope) where
   -- what the block of the name x in a region says, where the names of keep are kept
-  abbrev told : (Bytes → Bool) → Bytes → List Entry → Option Answer
+  abbrev pub told : (Bytes → Bool) → Bytes → List Entry → Option Answer
   told keep x l = said (see width c.stripped keep) (block_of x l)
 
   -- the table at the opening
   abbrev pub opens : Store → Bytes → Option Answer
   opens s x = told (worktree_shows c) x s.worktree or told (common_shows c) x (or_empty s.common) or told (packed_shows c) x s.packed
 
+  -- that is of a block of the name, whatever it is
+  pub told_block : (keep : Bytes → Bool) (x : Bytes) (l : List Entry) (f : Entry) → block_of x l ≡ Some f → told keep x l ≡ shows (shown_if (keep x) x (strip_answer c.stripped (says width x f)))
+  told_block keep x l damaged h = none≢Some (block_bears x damaged l h)
+  told_block keep x l failed h = none≢Some (block_bears x failed l h)
+  told_block keep x l (loose y d) h = let n = block_bears x (loose y d) l h in let q : y ≡ x = cc in rw (h, q) refl
+  told_block keep x l (unread y) h = let n = block_bears x (unread y) l h in let q : y ≡ x = cc in rw (h, q) refl
+  told_block keep x l (packed_record y t p) h = let n = block_bears x (packed_record y t p) l h in let q : y ≡ x = cc in rw (h, q) refl
+
   -- a name that is not kept says nothing
   untold : (keep : Bytes → Bool) (x : Bytes) → keep x ≡ false → (l : List Entry) → told keep x l ≡ None
-  untold keep x k l = go (block_of x l) (λ f h. block_bears x f l h)
+  untold keep x k l = go (block_of x l) refl
     where
-      go : (o : Option Entry) → ((f : Entry) → o ≡ Some f → name_of f ≡ Some x) → said (see width c.stripped keep) o ≡ None
-      go None h = refl
-      go (Some damaged) h = refl
-      go (Some failed) h = refl
-      go (Some (loose y d)) h = let n = h (loose y d) refl in let q : y ≡ x = cc in rw (q, k)
-      go (Some (unread y)) h = let n = h (unread y) refl in let q : y ≡ x = cc in rw (q, k)
-      go (Some (packed_record y t p)) h = let n = h (packed_record y t p) refl in let q : y ≡ x = cc in rw (q, k)
+      go : (o : Option Entry) → block_of x l ≡ o → told keep x l ≡ None
+      go None h = rw h refl
+      go (Some f) h = told_block keep x l f h ∙ rw k refl
 
   -- what is shown of an id
   abbrev id_shown : Bool → Bytes → Bytes → Option Answer

@@ -16,7 +16,8 @@ use Rattle.names.specs.Candidates.{Candidate}
 use Rattle.names.specs.Route.{shared, route, packed_name}
 use Rattle.names.proofs.Tests.{not_both, some_none}
 use Rattle.names.proofs.Prefix.{strip_append}
-use Rattle.names.proofs.Placed.{refs_begins_r, placed, placed_own, placed_path, placed_packed}
+use Rattle.names.proofs.Itself.{own_path}
+use Rattle.names.proofs.Placed.{placed, placed_own, placed_path, placed_packed}
 use Rattle.names.proofs.Sought.{Fair}
 use Rattle.blocks.specs.Content.{object, symbolic, reads, lower_case, read}
 use Rattle.blocks.specs.Entry.{Entry, loose}
@@ -33,7 +34,7 @@ file_path e s c u v = rw (file_is e s c, (placed_path (placed c) u v).0)
 
 -- the file of such a name itself
 file_own : (e : Bytes) (s : Store) (n : Bytes) → under_refs n ≡ true → is_private n ≡ false → file_of e s n ≡ block_of (e ++ n) (region_at shared s)
-file_own e s n u v = let f : (route n).path ≡ n = placed_own (placed n) (refs_begins_r n u) in rw f at (file_path e s n (rw f u) (rw f v))
+file_own e s n u v = let f = own_path n u in rw f at (file_path e s n (rw f u) (rw f v))
 
 module _ (width : ℕ) (e : Bytes) (s : Store) where
   -- the file of n is a symbolic reference

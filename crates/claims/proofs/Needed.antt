@@ -5,53 +5,24 @@ use mathlib.Core.Path.{◌≡◌, refl}
 use Prim.Native.Nat.{ℕ}
 use Prim.Native.String.{String}
 use mathlib.Core.List.{List, [], ◌∷◌, ◌++◌}
-use mathlib.Core.Bool.{Bool, true, false, not}
+use mathlib.Core.Bool.{Bool, true, not}
 use Rattle.std.specs.Prelude.{Option, None, Some}
 use lib.ListN.{replicate}
 use Rattle.names.specs.Bytes.{Bytes, bytes, same}
-use Rattle.names.specs.Check.{Checked, gives, refuses}
 use Rattle.names.specs.WellFormed.{well_formed}
 use Rattle.names.specs.Namespace.{expansion}
 use Rattle.names.specs.Route.{own, shared}
 use borrow.Author.Tests.{not-true}
-use Rattle.names.proofs.Tests.{and_left, and_right, not_both}
-use Rattle.names.proofs.Orders.{same_refl}
-use Rattle.blocks.specs.Content.{Target, object, symbolic}
+use Rattle.names.proofs.Tests.{and_left, and_right}
 use Rattle.blocks.specs.Snapshot.{Snapshot}
-use Rattle.refs.specs.Answer.{Answer, nothing, found, refused}
 use Rattle.refs.specs.Follow.{follow}
 use Rattle.refs.specs.Run.{listing}
-use Rattle.claims.specs.Compared.{Outcome, no_reference, an_id, number, handed_out, outcome}
+use Rattle.claims.specs.Compared.{handed_out, outcome}
 use Rattle.claims.proofs.Fixtures.{points_in, file_in, packed_in, namespace_n, snap, three}
 use Rattle.claims.proofs.LeftOut.{Premise, same_namespace, both_fit, no_directory, shared_names, under_refs_only, not_remote_heads, same_id, where_search_reads, no_other_block, worktree_alike, others_agree, both_or_neither_common, twice_over, Keeps, CutBut}
-use Rattle.claims.proofs.Decide.{How, Line, all_true, cut_tests, cut_by, tests_compute}
-
--- ---- what tells two answers apart
-
-abbrev target_bytes : Target → Bytes
-target_bytes (object id) = 0 ∷ id
-target_bytes (symbolic t) = 1 ∷ t
-
-abbrev answer_bytes : Answer → Bytes
-answer_bytes nothing = 0 ∷ []
-answer_bytes (found r) = 1 ∷ (r.name ++ target_bytes r.target)
-answer_bytes (refused k) = 2 ∷ k ∷ []
-
-unfoldable answers_bytes : List Answer → Bytes
-answers_bytes [] = []
-answers_bytes (a ∷ l) = answer_bytes a ++ answers_bytes l
-
-abbrev handed_bytes : Checked (List Answer × Bool) → Bytes
-handed_bytes (gives h) = 0 ∷ answers_bytes h.0
-handed_bytes (refuses k) = 1 ∷ k ∷ []
-
-abbrev outcome_bytes : Outcome → Bytes
-outcome_bytes no_reference = 0 ∷ []
-outcome_bytes (an_id id) = 1 ∷ id
-outcome_bytes (number k) = 2 ∷ k ∷ []
-
-apart : {A : Type 0} (f : A → Bytes) (x y : A) → same (f x) (f y) ≡ false → x ≡ y → ⊥
-apart f x y h e = not_both (same_refl (f y)) (rw e at h)
+use Rattle.claims.proofs.Tested.{all_true}
+use Rattle.claims.proofs.Apart.{answers_bytes, handed_bytes, outcome_bytes, apart}
+use Rattle.claims.proofs.Decide.{How, Line, cut_tests, cut_by, tests_compute}
 
 pub data ToldApart (namespace : Option Bytes) (s t : Snapshot) : Type 0 where
   by_listing : (n : ℕ) → (handed_out (listing 40 s namespace n) ≡ handed_out (listing 40 t namespace n) → ⊥) → ToldApart namespace s t

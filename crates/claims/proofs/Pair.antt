@@ -19,7 +19,8 @@ use Rattle.claims.specs.Demand3.{Cut}
 use Rattle.claims.proofs.Claims.{listing_cut, following_cut}
 use Rattle.claims.proofs.Fixtures.{points_in, file_in, packed_in, three, namespace_n}
 use Rattle.claims.proofs.LeftOut.{cut_of}
-use Rattle.claims.proofs.Decide.{How, Line, all_true, cut_tests, cut_by, tests_compute}
+use Rattle.claims.proofs.Tested.{all_true}
+use Rattle.claims.proofs.Decide.{How, Line, cut_tests, cut_by, tests_compute}
 
 module _ (namespace : Option Bytes) where
   abbrev e : Bytes

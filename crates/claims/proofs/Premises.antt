@@ -7,13 +7,14 @@ use mathlib.Core.Bool.{true, false}
 use Rattle.std.specs.Prelude.{Option, None, Some}
 use lib.ListN.{take}
 use Rattle.names.specs.Bytes.{Bytes}
-use Rattle.names.specs.Name.{under_refs, directory}
+use Rattle.names.specs.Name.{directory}
 use Rattle.names.specs.Category.{is_private}
 use Rattle.names.specs.Namespace.{expand, expansion}
 use Rattle.names.specs.Route.{shared, route}
 use Rattle.names.proofs.Tests.{not_both}
 use Rattle.names.proofs.Prefix.{starts_split, starts_append}
-use Rattle.names.proofs.Placed.{begins_r, refs_begins_r, placed, placed_own, placed_path, expansion_shared, expansion_begins_r}
+use Rattle.names.proofs.Itself.{shared_base}
+use Rattle.names.proofs.Placed.{begins_r, expansion_shared, expansion_begins_r}
 use Rattle.blocks.specs.Entry.{loose, packed_record, peeled_in}
 use Rattle.blocks.proofs.Parts.{taken_loose, taken_record}
 use Rattle.blocks.specs.Snapshot.{Snapshot, store, region_at}
@@ -23,17 +24,13 @@ use Rattle.claims.proofs.Runs.{Ordered, ordered}
 use Rattle.claims.proofs.StoreCut.{Alike, held, Holds, as_loose, as_packed, Differs, Each, StoreCut}
 use Rattle.claims.proofs.Bridge.{records_of, common_there, in_worktree, in_common, in_packed, in_shared, held_is}
 
--- a shared name under refs/ is read in the shared region
-shared_base : (n : Bytes) → under_refs n ≡ true → is_private n ≡ false → (route n).base ≡ shared
-shared_base n u v = let f : (route n).path ≡ n = placed_own (placed n) (refs_begins_r n u) in (placed_path (placed n) (rw f u) (rw f v)).0
-
 -- ---- held names
 
 module _ (width : ℕ) (s : Snapshot) (o : Ordered (store width s)) where
   held_of : (n : Bytes) → held (store width s) n ≡ true → is_held s n ≡ true
   held_of n h = sym (held_is width s o n) ∙ h
 
-  flat_of : Flat s → (m n : Bytes) → held (store width s) m ≡ true → held (store width s) n ≡ true → directory m n ≡ false
+  pub flat_of : Flat s → (m n : Bytes) → held (store width s) m ≡ true → held (store width s) n ≡ true → directory m n ≡ false
   flat_of f m n h k = f m n (held_of m h) (held_of n k)
 
   -- none begins with the expansion twice over

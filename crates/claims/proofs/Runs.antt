@@ -2,7 +2,8 @@
 use mathlib.Core.Path.{◌≡◌, refl, sym, ap, ap₂, ◌∙◌, subst}
 use mathlib.Core.Bool.{Bool, true, false}
 use mathlib.Core.List.{◌∷◌, map}
-use Rattle.std.specs.Prelude.{Option, None}
+use Rattle.std.specs.Prelude.{Option, None, Some}
+use lib.ListN.{drop}
 use Prim.Native.Nat.{ℕ, zero, suc}
 use Rattle.names.specs.Bytes.{Bytes}
 use Rattle.names.proofs.Orders.{◌≺◌}
@@ -11,15 +12,16 @@ use Rattle.blocks.proofs.Flaws.{store_flawless}
 use Rattle.blocks.specs.Snapshot.{Snapshot, Store, store, or_empty, Fit}
 use Rattle.refs.specs.Answer.{Answer, nothing, found, refused}
 use Rattle.refs.specs.View.{View, scope, view}
-use Rattle.refs.specs.Listing.{Positions, move}
+use Rattle.refs.specs.Listing.{Waiting, peek, Offer, Positions, by_name, move, next_offer}
+use Rattle.refs.specs.ListPromises.{offered}
 use Rattle.refs.specs.Run.{State, start, Step, is_nothing, moved, unless_ended, step, Run, run}
 use Rattle.refs.proofs.Clauses.{move_chooses, step_is}
 use Rattle.refs.proofs.Moves.{run_none, run_more}
 use Rattle.refs.proofs.Positions.{step_expansion}
 use Rattle.claims.specs.Compared.{compared, Rising}
 use Rattle.claims.proofs.Tables.{Table, Does, ends, hands, Both, same_step, Clear, Bound, no_bound, rising_step}
-use Rattle.claims.proofs.Waits.{Faithful, peek_waits}
-use Rattle.claims.proofs.Least.{table, choose_does}
+use Rattle.claims.proofs.Waits.{Faithful, region, Waits, peek_waits}
+use Rattle.claims.proofs.Least.{table, Offers, chosen, offers_next, choose_does}
 
 -- ---- regions without a flaw
 
@@ -39,13 +41,32 @@ pub record Honest (Shown : Bytes → Bytes → Type 0) (v : View) : Type 0 where
   pub common : Faithful Shown v.common
   pub packed : Faithful Shown v.packed
 
-pub move_does : (Shown : Bytes → Bytes → Type 0) (v : View) → Honest Shown v → (s : Store) → Ordered s → (at : Positions)
-    → Does Shown (table v s at) (move v s at).answer (table v s (move v s at).next)
-move_does Shown v honest s h at =
-    rw (move_chooses v s at)
-    (choose_does Shown _ _ _ _ _ _ at (peek_waits Shown v.worktree honest.worktree s.worktree h.worktree at.worktree)
-    (peek_waits Shown v.common honest.common (or_empty s.common) h.common at.common)
-    (peek_waits Shown v.packed honest.packed s.packed h.packed at.packed))
+module _ (Shown : Bytes → Bytes → Type 0) (v : View) (honest : Honest Shown v) (s : Store) (h : Ordered s) (at : Positions) where
+  worktree_waits : Waits Shown (region v.worktree (drop at.worktree s.worktree)) (λ j. region v.worktree (drop j s.worktree)) (peek v.worktree s.worktree at.worktree)
+  worktree_waits = peek_waits Shown v.worktree honest.worktree s.worktree h.worktree at.worktree
+
+  common_waits : Waits Shown (region v.common (drop at.common (or_empty s.common))) (λ j. region v.common (drop j (or_empty s.common))) (peek v.common (or_empty s.common) at.common)
+  common_waits = peek_waits Shown v.common honest.common (or_empty s.common) h.common at.common
+
+  packed_waits : Waits Shown (region v.packed (drop at.packed s.packed)) (λ j. region v.packed (drop j s.packed)) (peek v.packed s.packed at.packed)
+  packed_waits = peek_waits Shown v.packed honest.packed s.packed h.packed at.packed
+
+  pub move_does : Does Shown (table v s at) (move v s at).answer (table v s (move v s at).next)
+  move_does = rw (move_chooses v s at) (choose_does Shown _ _ _ _ _ _ at worktree_waits common_waits packed_waits)
+
+  -- what is next begins the table
+  pub move_offers : Offers Shown (table v s at) (next_offer v s at)
+  move_offers = offers_next Shown _ _ _ _ _ _ at worktree_waits common_waits packed_waits
+
+  -- and is answered
+  by_name_answer : (q : Option Offer) (w c p : Waiting) → (by_name q w c p at).answer ≡ offered q
+  by_name_answer None w c p = refl
+  by_name_answer (Some o) w c p = refl
+
+  pub move_answer : (move v s at).answer ≡ offered (next_offer v s at)
+  move_answer =
+      rw (move_chooses v s at, chosen Shown _ _ _ _ _ _ at worktree_waits common_waits packed_waits)
+      (by_name_answer (next_offer v s at) (peek v.worktree s.worktree at.worktree) (peek v.common (or_empty s.common) at.common) (peek v.packed s.packed at.packed))
 
 -- ---- states
 
@@ -89,7 +110,7 @@ module _ (width : ℕ) (e : Bytes) (Shown : Bytes → Bytes → Type 0) (honest 
       rw (step_is width s (state at false e), h.sizes)
       (does_over Shown (move (view width (scope e)) (store width s) at).answer (move_does Shown (view width (scope e)) honest (store width s) (ordered width s h) at))
 
-  step_does : (s : Snapshot) → Fit width s → (st : State) → st.expansion ≡ e → Does Shown (state_table width e s st) (step width s st).answer (state_table width e s (step width s st).next)
+  pub step_does : (s : Snapshot) → Fit width s → (st : State) → st.expansion ≡ e → Does Shown (state_table width e s st) (step width s st).answer (state_table width e s (step width s st).next)
   step_does s h st q =
       subst (λ (x : Bytes). Does Shown (state_table width e s st) (step width s (state st.at st.ended x)).answer (state_table width e s (step width s (state st.at st.ended x)).next))
       (sym q) (step_does_at s h st.at st.ended)

@@ -1,2 +1,3 @@
-// Two snapshots compared: definitions in specs/, the theorem in proofs/Claims.antt. There is no code.
+// Two snapshots compared, and list and search: definitions in specs/, the theorems in proofs/Claims.antt and
+// proofs/ListSearch.antt. There is no code.
 #![tactic(auto)]
