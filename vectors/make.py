@@ -12,14 +12,15 @@ from pathlib import Path
 HERE = Path(__file__).resolve().parent
 sys.path.insert(0, str(HERE))
 
+import agreement  # noqa: E402
 import random_cases  # noqa: E402
-from cases import (blocks, candidates, categories, contents, following, listing, names, namespaces,  # noqa: E402
+from cases import (agree, blocks, candidates, categories, contents, following, listing, names, namespaces,  # noqa: E402
                    positions, refusals, routing, shapes, surprises)
 from model import Replay, lines_of  # noqa: E402
 from table import Table  # noqa: E402
 
 TOPICS = (names, categories, contents, blocks, candidates, routing, namespaces, following, listing, positions, refusals,
-          surprises, shapes)
+          surprises, agree, shapes)
 
 
 def differ(what, line, wanted, given):
@@ -63,8 +64,9 @@ def main():
     for topic in TOPICS:
         topic.write(table)
     worked = sum(1 for wanted in table.answers if wanted)
+    agreed = agreement.write(table)
     table.snapshot()
-    random_cases.write(table)
+    random_cases.write(table, agreement.seek_listed)
     answers = answer_all(replay, table.lines, table.answers)
     reset = [b"worktree -", b"common ~", b"packed ~", b"namespace ~"]
     answer_all(replay, reset, [[]] * 4)
@@ -77,6 +79,7 @@ def main():
     asked = sum(1 for line in table.lines if line and not line.startswith(b"#"))
     print(f"{asked} lines, {worked} questions with hand-worked answers; {len(recorded_lines)} recorded lines; "
           f"{len(answers)} answers; {Path(paths[0]).stat().st_size} and {Path(paths[1]).stat().st_size} bytes")
+    print(agreed)
 
 
 if __name__ == "__main__":

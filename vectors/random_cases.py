@@ -133,7 +133,7 @@ def ask_names(t, dice, regions, count):
         t.ask_model(f"{dice.pick(['find', 'follow', 'follow'])} '{name}'")
 
 
-def write(t):
+def write(t, seek_listed):
     dice = Dice(SEED)
     regions = {"worktree": [], "common": None, "packed": None}
     spoiled = []
@@ -158,3 +158,4 @@ def write(t):
         t.ask_model(f"list {1 + dice.roll(4)}")
         for _ in range(3):
             t.ask_model(f"step {dice.roll(5)} {dice.roll(4)} {dice.roll(4)}")
+        seek_listed(t, regions)
