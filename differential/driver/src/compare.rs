@@ -52,6 +52,8 @@ pub struct Counts {
     /// Snapshots, and how many of them are fit for search.
     pub snapshots: u64,
     pub fit: u64,
+    /// Snapshots of which each listed name was sought.
+    pub sought: u64,
     /// Snapshots that have each of `FEATURES`.
     pub features: [u64; FEATURES.len()],
     /// Answers of the Rust that do not tell which number is due.
@@ -84,6 +86,7 @@ impl Counts {
         self.stand_in += o.stand_in;
         self.snapshots += o.snapshots;
         self.fit += o.fit;
+        self.sought += o.sought;
         self.features.iter_mut().zip(o.features).for_each(|(mine, more)| *mine += more);
         self.left_out += o.left_out;
     }

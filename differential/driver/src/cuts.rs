@@ -1,30 +1,25 @@
 //! Pairs of snapshots related by a cut, asked the same. That the answers are alike is proved of the reader, without a
 //! namespace and in one (crates/claims/specs/Demand3.antt); here it is tested of the Rust, and of `replay`.
-use std::{
-    collections::{BTreeMap, BTreeSet},
-    io,
-    path::Path,
-    slice,
-};
+use std::{collections::BTreeSet, io, path::Path, slice};
 
 use gix_validate::reference::well_formed;
 
 use crate::{
     blocks,
+    claims::{self, Blocks, held, is_flat, mentioned},
     compare::{self, Asked, Counts, Difference},
-    names, oracle,
+    names,
     pairs::{self, Pair},
-    parallel::{self, BATCHES_A_ROUND},
     replay::Replay,
     rng::Rng,
     shrink,
     snapshot::{Bytes, Case, Group, Question, Snapshot},
 };
 
-/// A pair for so many comparisons of the run, but a round of batches at least.
-const COMPARISONS_A_PAIR: u64 = 500;
 /// Every second one is in a namespace.
 const PAIRS_A_BATCH: u64 = 26;
+/// The run's own batches count up from 0, these down from here.
+const STREAM: u64 = u64::MAX;
 
 #[derive(Default)]
 struct Tally {
@@ -35,29 +30,26 @@ struct Tally {
     thrown_away: u64,
 }
 
+impl claims::Tally for Tally {
+    fn subjects(&self) -> u64 {
+        self.pairs
+    }
+
+    fn add(&mut self, more: Self) {
+        self.pairs += more.pairs;
+        self.in_namespace += more.in_namespace;
+        self.answers += more.answers;
+        self.thrown_away += more.thrown_away;
+    }
+}
+
 /// Ask about all pairs; gives the report's line, or the first difference.
 pub fn run(scratch: &Path, replay: &Replay, seed: u64, count: u64) -> io::Result<Result<String, String>> {
-    let (mut all, mut first) = (Tally::default(), 0);
-    while first == 0 || all.pairs < count / COMPARISONS_A_PAIR {
-        let done = parallel::round(first, |thread, number| {
-            // The other batches of the run have the numbers from 0 up.
-            batch(&scratch.join(thread.to_string()), replay, &mut Rng::new(seed, !number))
-        })?;
-        for tally in done {
-            let more = match tally {
-                Ok(more) => more,
-                Err(text) => return Ok(Err(text)),
-            };
-            all.pairs += more.pairs;
-            all.in_namespace += more.in_namespace;
-            all.answers += more.answers;
-            all.thrown_away += more.thrown_away;
-        }
-        first += BATCHES_A_ROUND;
-    }
-    let Tally { pairs, in_namespace, answers, thrown_away } = all;
-    let counts = format!("{pairs} pairs, {in_namespace} in a namespace, {answers} answers compared");
-    Ok(Ok(format!("cuts: {counts}, all alike ({thrown_away} pairs thrown away)")))
+    let all = claims::rounds(scratch, seed, STREAM, count, |dir, rng| batch(dir, replay, rng))?;
+    Ok(all.map(|Tally { pairs, in_namespace, answers, thrown_away }| {
+        let counts = format!("{pairs} pairs, {in_namespace} in a namespace, {answers} answers compared");
+        format!("cuts: {counts}, all alike ({thrown_away} pairs thrown away)")
+    }))
 }
 
 fn batch(dir: &Path, replay: &Replay, rng: &mut Rng) -> io::Result<Result<Tally, String>> {
@@ -78,15 +70,7 @@ fn batch(dir: &Path, replay: &Replay, rng: &mut Rng) -> io::Result<Result<Tally,
         tally.answers += questions.len() as u64;
         all.extend(pair.sides.into_iter().zip(asked));
     }
-    // Where `replay` gives the Rust's answers, its own are alike too.
-    let answers = replay.ask(all.iter().map(|(s, asked)| compare::questions(s, asked)).collect())?;
-    let mut lines = answers.lines();
-    for (s, asked) in &all {
-        if let Err(d) = compare::compare(s, asked, &mut lines, &mut Counts::default()) {
-            return Ok(Err(shrink::show(&d)));
-        }
-    }
-    Ok(Ok(tally))
+    Ok(claims::as_replay(replay, &all)?.map(|()| tally))
 }
 
 /// The listing, and following of names held and led to, of held ones stripped and shortened, and of others.
@@ -150,41 +134,14 @@ fn show(dir: &Path, mut p: Pair, q: &Question) -> io::Result<String> {
     Ok(p.sides.clone().into_iter().zip(asked).map(side).collect::<Vec<_>>().join("cut differently\n"))
 }
 
-/// What worktree, common and packed hold under a name: kind and content.
-type Blocks = [Option<(u8, Bytes)>; 3];
-
-/// All named blocks.
-pub fn held(s: &Snapshot) -> BTreeMap<Bytes, Blocks> {
-    let r = blocks::regions(s);
-    let mut held = BTreeMap::<_, Blocks>::new();
-    for (i, region) in [Some(r.worktree), r.common, r.packed].into_iter().enumerate() {
-        for b in region.unwrap_or_default().chunks(blocks::SIZE).filter(|b| matches!(b[0], 1 | 2 | 4)) {
-            let (name, content) = blocks::parts(b);
-            held.entry(name.to_vec()).or_default()[i] = Some((b[0], content.to_vec()));
-        }
-    }
-    held
-}
-
-/// Held names, and targets of symbolic references.
-pub fn mentioned(s: &Snapshot) -> BTreeSet<Bytes> {
-    let held = held(s);
-    let contents = held.values().flatten().flatten().map(|(_, content)| content);
-    // An id is no target.
-    let targets = contents.filter_map(|c| oracle::decoded(c)).filter(|target| !target.is_empty());
-    targets.chain(held.keys().cloned()).collect()
-}
-
 /// The premises (document 01, "Two snapshots compared", and document 02, §13), read off the blocks.
 fn is_cut(p: &Pair) -> bool {
     let [a, b] = p.sides.each_ref().map(held);
     let twice = [&p.expansion[..], &p.expansion].concat();
     let once = |n: &Bytes| twice.is_empty() || !n.starts_with(&twice);
-    let is_flat =
-        |h: &BTreeMap<Bytes, Blocks>, n: &Bytes| (0..n.len()).all(|i| n[i] != b'/' || !h.contains_key(&n[..i]));
     p.sides.iter().all(|s| blocks::fitness(s) == "fit")
         && p.sides[0].common.is_some() == p.sides[1].common.is_some()
-        && [&a, &b].iter().all(|h| h.keys().all(|n| once(n) && is_flat(h, n)))
+        && [&a, &b].iter().all(|h| is_flat(h) && h.keys().all(once))
         && a.keys().chain(b.keys()).all(|n| a.get(n) == b.get(n) || may_differ(p, n, a.get(n), b.get(n)))
         // Nothing would be shown by two that are the same.
         && a != b

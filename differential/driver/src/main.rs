@@ -1,5 +1,7 @@
 //! Compares `replay` with the supplied files of gix-ref 0.69.1 on generated snapshots.
+mod agree;
 mod blocks;
+mod claims;
 mod compare;
 mod contents;
 mod corners;

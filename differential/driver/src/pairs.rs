@@ -5,12 +5,12 @@ use gix_ref::{bstr::ByteSlice, log as inside};
 use gix_validate::reference::complete;
 
 use crate::{
+    claims::{self, held, mentioned},
     contents::{id, object, symbolic},
-    cuts::{held, mentioned},
     generate::{self, Style},
     names, oracle,
     rng::Rng,
-    snapshot::{Bytes, Case, Entry, LIMIT, Loose, Packed, Snapshot, is_directory_of},
+    snapshot::{Bytes, Case, Entry, LIMIT, Loose, Packed, Snapshot},
 };
 
 /// Small, since every name is asked for in several ways.
@@ -80,15 +80,13 @@ fn clean(s: &mut Snapshot, differing: &mut Vec<Bytes>, expansion: &[u8]) {
     let twice = [expansion, expansion].concat();
     let mut kept: Vec<Bytes> = Vec::new();
     let mut keep = |name: &Bytes| {
-        let clash = |other: &Bytes| is_directory_of(other, name) || is_directory_of(name, other);
-        let keeps = !kept.iter().any(clash) && (twice.is_empty() || !name.starts_with(&twice));
+        let keeps =
+            !kept.iter().any(|other| claims::clash(other, name)) && (twice.is_empty() || !name.starts_with(&twice));
         kept.extend(keeps.then(|| name.clone()));
         keeps
     };
     differing.retain(&mut keep);
-    s.worktree.retain(|e| e.what != Loose::Locked && keep(&e.name));
-    s.common.iter_mut().for_each(|c| c.retain(|e| e.what != Loose::Locked && keep(&e.name)));
-    s.packed.iter_mut().for_each(|p| p.retain(|line| line.name().is_some_and(&mut keep)));
+    claims::retain(s, |_, name| keep(name));
     s.common.as_mut().unwrap_or(&mut s.worktree).retain(|e| !differing.contains(&e.name));
     if let Some(packed) = &mut s.packed {
         packed.retain(|line| line.name().is_some_and(|name| !differing.contains(name)));

@@ -10,7 +10,9 @@ const OFTEN: u64 = 1_000;
 /// Print the counts; says whether a full run has reached every number often enough.
 pub fn print(c: &Counts, seed: u64, count: u64, took: Duration) -> bool {
     let seconds = took.as_secs_f64();
-    println!("seed {seed}, {} snapshots, {} of them fit for search, {seconds:.0} s\n", c.snapshots, c.fit);
+    let Counts { snapshots, fit, sought, .. } = c;
+    println!("seed {seed}, {snapshots} snapshots, {fit} of them fit for search, {seconds:.0} s");
+    println!("of {sought} snapshots each listed name was sought\n");
     row("question", ["compared", "in namespace", "absent"], "refusals");
     for (kind, name) in Question::KINDS.iter().enumerate().filter(|(k, _)| c.compared[*k] > 0) {
         let numbers = [c.compared[kind], c.in_namespace[kind], c.absent[kind]];
