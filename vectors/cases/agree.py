@@ -13,7 +13,7 @@ def write(t):
 
 
 def write_agreement(t):
-    t.note("each listed name sought whole gives the target, or the refusal, that the listing showed, at the first candidate")
+    t.note("each listed name sought whole gives the target, or the refusal, that the listing showed")
     t.snapshot(worktree=rising(oid("refs/bisect/bad", "4"), ref("refs/worktree/w", "refs/heads/a")),
                common=rising(ref("refs/heads/a", "refs/heads/b"), file("refs/heads/j", "junk"), unreadable("refs/heads/u"),
                              file("refs/heads/v", "ref: @"), file("refs/heads/w", "ref: refs/heads/.invalid")),

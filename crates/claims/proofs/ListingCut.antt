@@ -35,7 +35,7 @@ module _ (width : ℕ) (c : Scope) where
   abbrev pub opens : Store → Bytes → Option Answer
   opens s x = told (worktree_shows c) x s.worktree or told (common_shows c) x (or_empty s.common) or told (packed_shows c) x s.packed
 
-  -- that is of a block of the name, whatever it is
+  -- where there is one it is what that block says under the name, if the name is kept
   pub told_block : (keep : Bytes → Bool) (x : Bytes) (l : List Entry) (f : Entry) → block_of x l ≡ Some f → told keep x l ≡ shows (shown_if (keep x) x (strip_answer c.stripped (says width x f)))
   told_block keep x l damaged h = none≢Some (block_bears x damaged l h)
   told_block keep x l failed h = none≢Some (block_bears x failed l h)
