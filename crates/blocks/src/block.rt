@@ -42,6 +42,17 @@ pub enum Region {
     Packed,
 }
 
+// The bytes of the kinds.
+pub const LOOSE: u8 = 1;
+
+pub const UNREAD: u8 = 2;
+
+pub const WALK_ERROR: u8 = 3;
+
+pub const RECORD: u8 = 4;
+
+pub const PACKED_ERROR: u8 = 5;
+
 // What the byte in front says that a block holds.
 #[derive(Clone, Copy, Debug, PartialEq, Eq)]
 pub enum Kind {
@@ -64,11 +75,11 @@ impl TryFrom<u8> for Kind {
 
     fn try_from(b: u8) -> Result<Kind, UnknownKind> {
         match b {
-            1 => Ok(Kind::Loose),
-            2 => Ok(Kind::Unread),
-            3 => Ok(Kind::WalkError),
-            4 => Ok(Kind::Record),
-            5 => Ok(Kind::PackedError),
+            LOOSE => Ok(Kind::Loose),
+            UNREAD => Ok(Kind::Unread),
+            WALK_ERROR => Ok(Kind::WalkError),
+            RECORD => Ok(Kind::Record),
+            PACKED_ERROR => Ok(Kind::PackedError),
             _ => Err(UnknownKind(b)),
         }
     }

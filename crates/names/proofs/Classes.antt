@@ -3,19 +3,19 @@ use Rattle.std.specs.Prelude.{if◌then◌else◌, cond}
 use Rattle.std.specs.List.{position, position_from}
 use Rattle.std.proofs.lemmas.Iterator.Adapters.{position_from-zero}
 use mathlib.Core.Path.{◌≡◌, refl, sym, ◌∙◌}
-use Prim.Native.Nat.{ℕ, suc, ◌+◌, ◌≤◌, ◌<◌}
+use Prim.Native.Nat.{ℕ, suc, ◌+◌, ◌-◌, ◌≤◌, ◌<◌}
 use native.Mathlib.Omega.{arith}
 use mathlib.Core.List.{[], ◌∷◌, ◌++◌}
 use mathlib.Core.Bool.{Bool, true, false}
 use Rattle.std.specs.Prelude.{Option, None, Some}
 use Rattle.std.specs.Option.{option_map}
-use lib.Dec.{eqb}
+use lib.Dec.{eqb, lit≤}
 use lib.ListN.{length, drop, length-drop}
 use Rattle.names.specs.Bytes.{Bytes, bytes, slash, starts_with, every}
 use Rattle.names.specs.Name.{is_pseudo}
-use Rattle.names.specs.Category.{Category, Tag, LocalBranch, RemoteBranch, Note, Bisect, WorktreePrivate, Rewritten, PseudoRef, MainPseudoRef, MainRef, Class, classify_below, first_slash, classify_linked, without_prefix, without_refs, classify, named, category_and_short_name, short_name}
-use Rattle.names.proofs.Tests.{none≢Some}
-use Rattle.names.proofs.Prefix.{starts_both}
+use Rattle.names.specs.Category.{Category, Tag, LocalBranch, RemoteBranch, Note, Bisect, WorktreePrivate, Rewritten, PseudoRef, MainPseudoRef, MainRef, Class, prefix, classify_below, first_slash, classify_linked, without_prefix, without_refs, classify, off_in, named, category_and_short_name, short_name}
+use Rattle.names.proofs.Tests.{if_case, none≢Some}
+use Rattle.names.proofs.Prefix.{starts_both, starts_length}
 
 -- ---- the tests of a category, first those below refs/
 
@@ -114,3 +114,41 @@ slash_in (b ∷ s) i e = go (eqb b slash) e (first_slash s) refl (slash_in s)
 pub short_length : (s : Bytes) → length (short_name s) ≤ length s
 unfolding short_name
 short_length s = simp length-drop (omega arith)
+
+-- ---- what is taken off is there
+
+off_below : (s : Bytes) (ref pseudo : Category) (off : ℕ) (rest : Bytes) → off ≤ length s → off_in (classify_below ref pseudo off rest) ≤ length s
+unfolding classify_below
+off_below s ref pseudo off rest h =
+    if_case (λ (o : Option Class). off_in o ≤ length s) (starts_with (bytes "refs/") rest) (λ _. h)
+    (λ _. if_case (λ (o : Option Class). off_in o ≤ length s) (is_pseudo rest) (λ _. h) (λ _. omega arith))
+
+off_linked : (s : Bytes) → 10 ≤ length s → (o : Option ℕ) → first_slash (drop 10 s) ≡ o → off_in (classify_linked (drop 10 s) o) ≤ length s
+unfolding classify_linked
+off_linked s h None e = omega arith
+off_linked s h (Some i) e = off_below s _ _ _ _ (omega (arith, rw length-drop at (slash_in (drop 10 s) i e)))
+
+-- a test that is met by a beginning
+off_of : (s p : Bytes) (a b : Option Class) → off_in a ≤ length p → off_in b ≤ length s → off_in (if starts_with p s then a else b) ≤ length s
+off_of s p a b h k = if_case (λ (o : Option Class). off_in o ≤ length s) (starts_with p s) (λ t. omega (arith, starts_length p s t)) (λ _. k)
+
+pub off_within : (s : Bytes) → off_in (classify s) ≤ length s
+unfolding classify
+off_within s =
+    off_of s (prefix Tag) _ _ (lit≤ tt)
+    (off_of s (prefix LocalBranch) _ _ (lit≤ tt)
+    (off_of s (prefix RemoteBranch) _ _ (lit≤ tt)
+    (off_of s (prefix Note) _ _ (lit≤ tt)
+    (off_of s (prefix Bisect) _ _ (lit≤ tt)
+    (off_of s (prefix WorktreePrivate) _ _ (lit≤ tt)
+    (off_of s (prefix Rewritten) _ _ (lit≤ tt)
+    (if_case P (is_pseudo s) (λ _. omega arith) (λ _.
+    if_case P (starts_with (bytes "main-worktree/") s) (λ t. off_below s _ _ _ _ (starts_length (bytes "main-worktree/") s t)) (λ _.
+    if_case P (starts_with (bytes "worktrees/") s) (λ t. off_linked s (starts_length (bytes "worktrees/") s t) _ refl) (λ _. omega arith))))))))))
+  where
+    P : Option Class → Type 0
+    P o = off_in o ≤ length s
+
+-- so the short name tells how many bytes the category takes off
+pub off_told : (s : Bytes) (k : Class) → classify s ≡ Some k → length s - length (named s k).1 ≡ k.off
+off_told s k e = let h : k.off ≤ length s = rw e at (off_within s) in simp length-drop (omega (arith, h))

@@ -1,6 +1,6 @@
 -- Names that were made, where the bytes fit.
 use Rattle.std.specs.Prelude.{if◌then◌else◌}
-use mathlib.Core.Path.{◌≡◌, refl, sym}
+use mathlib.Core.Path.{◌≡◌, refl, sym, ◌∙◌}
 use Prim.Native.Nat.{ℕ, ◌+◌, ◌-◌, ◌≤◌, ◌<◌, min}
 use lib.Dec.{leb}
 use native.Mathlib.Omega.{arith}
@@ -9,11 +9,11 @@ use mathlib.Core.List.{◌++◌}
 use Rattle.std.specs.Prelude.{None, Some, Result, Ok, Err}
 use Rattle.std.specs.Result.{result_ok}
 use lib.ListN.{length, take, length-append, length-take}
-use lib.Seq.{take_all, take-append_seam}
+use lib.Seq.{take_all}
 use Rattle.std.proofs.Math.Nat.{min_comm}
-use borrow.Rule.Slice.PartMut.{put_mid}
-use Rattle.std.proofs.lemmas.Slice.{take-put_mid}
 use borrow.Author.Tests.{leb-true, leb-false, le-leb, lt-leb}
+use Rattle.output.specs.Pasted.{pasted}
+use Rattle.output.proofs.Pastes.{pasted_behind, pasted_taken}
 use Rattle.names.specs.Bytes.{Bytes, bytes}
 use Rattle.names.specs.Name.{longest, fits}
 use Rattle.names.specs.Candidates.{full_name}
@@ -40,6 +40,9 @@ module _ (s : Bytes) where
 
   pub fits_there : (b : Bytes) → Some b ≡ if_fits s → fits s ≡ true
   fits_there b e = (fitted (fits s) b e).1
+
+  pub fits_made : (b : Bytes) → Some b ≡ if_fits s → fits b ≡ true
+  fits_made b e = rw (fits_is b e) (fits_there b e)
 
   pub fits_not : None ≡ if_fits s → fits s ≡ false
   fits_not e = unfitted (fits s) e
@@ -73,27 +76,33 @@ held_cut b len k e = go (leb len (length b)) refl
     go true f = let h = leb-true len (length b) f in let m : k ≡ len = omega arith in rw m
     go false f = let h = leb-false len (length b) f in rw (take_all k b (omega arith), take_all len b (omega arith))
 
-module _ (b : Bytes) (len : ℕ) (h : length b ≡ longest) (k : len ≤ longest) where
-  held_long : length (held b len) ≡ len
+module _ (b : Bytes) (len at : ℕ) (h : length b ≡ longest) (l : at ≡ length (held b len)) where
+  -- the bytes of a name are those in front of where it ends
+  held_end : held b len ≡ take at b
   unfolding held
-  held_long = rw (length-take, h) (omega arith)
+  held_end = go (leb len longest) refl
+    where
+      go : (f : Bool) → leb len longest ≡ f → take len b ≡ take at b
+      go true f = let k = leb-true len longest f in let e : at ≡ len = l ∙ (rw (length-take, h) (omega arith)) in rw e
+      go false f = let k = leb-false len longest f in let e : at ≡ longest = l ∙ (rw (length-take, h) (omega arith)) in rw (take_all len b (omega (arith, h)), take_all at b (omega (arith, h)))
+
+  end_within : at ≤ longest
+  unfolding held
+  end_within = rw l (simp length-take (omega (arith, h)))
 
   -- what finds no room
-  pub push_refused : (s : Bytes) → longest - len < length s → None ≡ if_fits (held b len ++ s)
-  push_refused s m = rw (lt-leb (length (held b len ++ s)) longest (simp (length-append, held_long) (omega arith)))
+  pub push_refused : (s : Bytes) → longest - at < length s → None ≡ if_fits (held b len ++ s)
+  push_refused s m = rw (lt-leb (length (held b len ++ s)) longest (simp length-append (omega (arith, l))))
 
   -- what finds room stands behind what was there
-  pub push_put : (s t : Bytes) (n : ℕ) → t ≡ s → n ≡ len + length s → length s ≤ longest - len → Some (held (put_mid len (n - len) b t) n) ≡ if_fits (held b len ++ s)
-  unfolding held
-  push_put s t n e m l =
-      rw (e, le-leb (length (take len b ++ s)) longest (simp (length-append, held_long) (omega arith)), take-put_mid {X = ℕ} len (n - len) b s n m (omega arith))
+  pub push_put : (s t : Bytes) → t ≡ pasted b at s → length s ≤ longest - at → Some (held t (at + length s)) ≡ if_fits (held b len ++ s)
+  push_put s t e k =
+      rw (e, le-leb (length (held b len ++ s)) longest (simp length-append (omega (arith, l, end_within))), held_end, held_is (pasted b at s) (at + length s), pasted_behind b at s (omega (arith, h, end_within)))
 
-front_there : (t u : Bytes) (k : ℕ) → length t ≡ k → take k (t ++ u) ≡ t
-front_there t u k e = rw (← e, take-append_seam)
-
--- as much as a name holds, whatever stands behind it
-pub fill_held : (s t u : Bytes) (k : ℕ) → k ≡ min (length s) longest → t ≡ take k s → take k (t ++ u) ≡ take longest s
-fill_held s t u k e f = rw (f, front_there (take k s) u k (simp length-take (omega arith))) (rw (held_is s longest) at (held_cut s longest k (rw min_comm at e)))
+-- as much as a name holds
+pub fill_held : (b s t : Bytes) (k : ℕ) → length b ≡ longest → k ≡ min (length s) longest → t ≡ pasted b 0 s → held t k ≡ take longest s
+unfolding held
+fill_held b s t k h e f = rw (f, pasted_taken b s k (omega (arith, h, e)) (omega (arith, e))) (rw (held_is s longest) at (held_cut s longest k (rw min_comm at e)))
 
 -- what `ok` leaves of a push
 module _ {A : Type 0} (n : Name) where
@@ -105,10 +114,9 @@ module _ {A : Type 0} (n : Name) where
   pushed_not (Ok x) e = none≢Some (sym e)
   pushed_not (Err x) e = refl
 
--- a name holds what fits
-pub content_fits : (n : Name) (s : Bytes) → content n ≡ s → Some (content n) ≡ if_fits s
-unfolding held
-content_fits n s e = rw (← e, le-leb (length (take n.len n.bytes)) longest (simp length-take (omega (arith, n.short))))
+-- what a name holds, where that fits
+pub content_fits : (n : Name) (s : Bytes) → fits (content n) ≡ true → content n ≡ s → Some (content n) ≡ if_fits s
+content_fits n s h e = rw (← e, h) refl
 
 -- what fits is held whole
 pub cut_fits : (s t : Bytes) → fits s ≡ true → t ≡ take longest s → t ≡ s

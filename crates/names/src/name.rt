@@ -7,15 +7,17 @@ ghost use Rattle.std.specs.Ordering.{on};
 ghost use Rattle.names.specs.Name.{longest, pseudo_byte, is_pseudo};
 ghost use Rattle.names.specs.declared.name.Refusal.TheVariants as refusal;
 
+use crate::bytes::lend;
+
 // The longest name.
 pub const LONGEST: usize = 250;
 
+// A length of more than 250 stands for 250.
 // Kept: bytes with a length beside them: a name is copied, and `ArrayVec` is not Copy.
 #[derive(Clone, Copy)]
 pub struct Name {
-    bytes: [u8; LONGEST],
-    len: usize,
-    ghost short: { len ≤ longest },
+    pub bytes: [u8; LONGEST],
+    pub len: usize,
 }
 
 // More bytes than a name holds.
@@ -61,12 +63,12 @@ impl Name {
         }
     }
 
-    #[tactic(auto, using(crate::proofs::Parts::held_is, crate::proofs::Parts::held_small))]
+    #[tactic(auto, using(crate::proofs::Parts::held_small))]
     pub fn as_bytes(&self) -> &[u8]
         ensures bytes { result.now ≡ content self.now }
         ensures within { length result.now ≤ longest }
     {
-        &self.bytes[..self.len]
+        lend(&self.bytes, self.len)
     }
 
     // Puts s behind what is there, where both fit; where not, the name stays as it was.
@@ -75,13 +77,12 @@ impl Name {
         ensures put { pushed self.new result ≡ if_fits (content self.old ++ s.now) }
         ensures kept { OnErr result (content self.new ≡ content self.old) }
     {
-        let at = self.len;
+        let at = self.as_bytes().len();
         if LONGEST - at < s.len() {
             return Err(TooLong);
         }
-        let end = at + s.len();
-        self.bytes[at..end].copy_from_slice(s);
-        self.len = end;
+        output::put(&mut self.bytes, at, s);
+        self.len = at + s.len();
         Ok(())
     }
 
@@ -90,9 +91,8 @@ impl Name {
     pub fn fill(&mut self, s: &[u8])
         ensures { content self.new ≡ take longest s.now }
     {
-        let len = s.len().min(LONGEST);
-        self.bytes[0..len].copy_from_slice(&s[..len]);
-        self.len = len;
+        output::put(&mut self.bytes, 0, s);
+        self.len = s.len().min(LONGEST);
     }
 
     // A name of the first bytes of s, as many as it holds.

@@ -94,7 +94,7 @@ pasted_past (x ∷ b) (suc at) s h = ap (λ (l : List ℕ). x ∷ l) (pasted_pas
 
 -- as many bytes as find room, from a place on that is no further than the end: a loan of this part that holds them then
 module _ (b : List ℕ) (at : ℕ) (s : List ℕ) (start n : ℕ) (e : start ≡ min at (length b)) (f : n ≡ min (length s) (length b - start)) where
-  roomy : paste b start s n ≡ pasted b at s
+  pub roomy : paste b start s n ≡ pasted b at s
   roomy = go (leb at (length b)) refl
     where
       go : (t : Bool) → leb at (length b) ≡ t → paste b start s n ≡ pasted b at s
@@ -120,7 +120,7 @@ lent_zeros b at l start n e f k part h p =
     lent_part b at (replicate l 0) start n e (rw length-replicate f) k part h (p ∙ rw (whole, take-replicate {X = ℕ} n l 0 (omega arith)))
 
 -- what has room stands behind what lay before it
-pasted_behind : (b : List ℕ) (at : ℕ) (s : List ℕ) → at + length s ≤ length b → take (at + length s) (pasted b at s) ≡ take at b ++ s
+pub pasted_behind : (b : List ℕ) (at : ℕ) (s : List ℕ) → at + length s ≤ length b → take (at + length s) (pasted b at s) ≡ take at b ++ s
 pasted_behind b at s h =
     let whole : paste b at s (length s) ≡ pasted b at s = copied b at s (length s) (omega (arith, h)) (omega arith) (λ (l : length s < length s). absurd (omega (arith, l))) in
     rw (← whole, take-paste b at s (length s) (omega (arith, h)) (omega arith), take-length)
