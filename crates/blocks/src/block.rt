@@ -315,13 +315,14 @@ impl<'a> Block<'a> {
         }
     }
 
-    // What a block holds, taken for sound.
+    // What a block of this content holds, taken for sound.
     #[tactic(auto, using(crate::proofs::Clauses::kind_at, crate::proofs::Clauses::taken_no_kind), unfolding(crate::specs::Block::block_kind))]
-    fn taken_entry(self) -> Entry<'a>
+    fn taken_entry(self, content: &'a [u8]) -> Entry<'a>
+        requires { content.now ≡ content_within self.bytes.now }
         ensures { entry_as result ≡ taken_entry id_width self.entry.bytes.now }
     {
         match Kind::try_from(self.bytes[KIND_AT]) {
-            Ok(kind) => Entry::new(kind, self.name(), self.content()),
+            Ok(kind) => Entry::new(kind, self.name(), content),
             Err(_) => Entry::Failed,
         }
     }
@@ -417,7 +418,7 @@ pub fn block_content(s: &[u8], k: usize) -> &[u8]
 pub fn sound_entry_at(s: &[u8], k: usize) -> Option<Entry<'_>>
     ensures { option_map entry_as result ≡ taken_in id_width s.now k }
 {
-    Some(Block::get(s, k)?.taken_entry())
+    Some(Block::get(s, k)?.taken_entry(block_content(s, k)))
 }
 
 // What block k of a region holds, and none past the last block.

@@ -213,10 +213,7 @@ impl Category<'_> {
         ensures { checked_of full_content result ≡ to_full_name (category_of self.entry) short.now }
     {
         match self.full_of(short) {
-            Some(name) if short.len() <= LONGEST => {
-                check_full(name.as_bytes())?;
-                Ok(FullName(name))
-            }
+            Some(name) if short.len() <= LONGEST => FullName::try_from(name.as_bytes()),
             _ => Err(Refusal::TooLong),
         }
     }

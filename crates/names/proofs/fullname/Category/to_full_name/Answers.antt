@@ -10,23 +10,13 @@ use Rattle.names.proofs.Held.{fits_is, fits_not}
 use Rattle.names.proofs.Rows.{to_full_checked}
 use Rattle.names.proofs.fullname.Category.to_full_name.Goals as goal
 
-pub returns-in_err-check_full-in-Some : goal.returns-in_err-check_full-in-Some
-unfolding full_checked
-returns-in_err-check_full-in-Some c =
+pub returns-in-Some : goal.returns-in-Some
+returns-in-Some c =
     let short = c.args.short.now in
     let whole = full_of (category_of c.args.self) short in
     let e = c.as_bytes.ensures.bytes ∙ fits_is whole (content c.in-Some.name) c.in-Some.ensures in
-    let k = rw e at c.in_err-check_full-in-Some.ensures in
-    rw (to_full_checked (category_of c.args.self) short (le-leb (length short) longest c.if-short-le-LONGEST.true)) (search rules)
-
-pub returns-in_ok-check_full-in-Some : goal.returns-in_ok-check_full-in-Some
-unfolding full_checked
-returns-in_ok-check_full-in-Some c =
-    let short = c.args.short.now in
-    let whole = full_of (category_of c.args.self) short in
-    let is = fits_is whole (content c.in-Some.name) c.in-Some.ensures in
-    let k = rw (c.as_bytes.ensures.bytes, is) at c.in_ok-check_full-in-Some.ensures in
-    rw (to_full_checked (category_of c.args.self) short (le-leb (length short) longest c.if-short-le-LONGEST.true), ← k, is)
+    let k = rw e at c.try_from.ensures in
+    rw (to_full_checked (category_of c.args.self) short (le-leb (length short) longest c.if-short-le-LONGEST.true)) k
 
 pub returns-in_default : goal.returns-in_default
 unfolding to_full_name
