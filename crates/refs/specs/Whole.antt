@@ -1,8 +1,10 @@
 -- What of an entry's parts is sure.
-use Rattle.std.specs.Prelude.{ℕ, List, drop, Bool, true, ◌&&◌, leb, eqb, length}
+use Rattle.std.specs.Prelude.{ℕ, ◌<◌, List, drop, Bool, true, false, ◌&&◌, leb, eqb, length}
 use Rattle.std.specs.Prelude.{Option, None, Some}
 use Rattle.names.specs.Bytes.{Bytes}
 use Rattle.names.specs.Name.{fits}
+use Rattle.names.specs.Route.{Base, own, shared}
+use Rattle.blocks.specs.Block.{Region}
 use Rattle.blocks.specs.Layout.{longest_content}
 use Rattle.blocks.specs.Content.{Target, object, symbolic}
 use Rattle.blocks.specs.Entry.{Entry, damaged, failed, loose, unread, packed_record}
@@ -44,6 +46,17 @@ target_of (target.Symbolic n) = symbolic (content n)
 abbrev pub target_fits : Target → Bool
 target_fits (object d) = true
 target_fits (symbolic t) = fits t
+
+-- the loose region that search reads: the common one for a shared name, where there is one
+abbrev pub region_read : Base → Bool → Region
+region_read own has = Region.worktree
+region_read shared true = Region.common
+region_read shared false = Region.worktree
+
+-- the number is that of one of n blocks
+abbrev pub InRange : Option ℕ → ℕ → Type 0
+InRange None n = Unit {0}
+InRange (Some k) n = k < n
 
 -- the entry of a number, if there is one
 abbrev pub indexed : Option ℕ → List Entry → Option Entry

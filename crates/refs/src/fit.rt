@@ -4,11 +4,11 @@ ghost use Rattle.std.specs.Option.{option_map};
 ghost use Rattle.names.specs.Means.{base_of, path};
 ghost use Rattle.blocks.specs.Entry.{entries};
 ghost use Rattle.blocks.specs.Fitness.{first_flaw};
-ghost use Rattle.blocks.specs.Snapshot.{region_at, store, store_flaw};
-ghost use Rattle.blocks.specs.Means.{id_width, region_of, region_bytes, snapshot_of, flaw_in, entry_as};
+ghost use Rattle.blocks.specs.Snapshot.{region_at, is_there, store, store_flaw};
+ghost use Rattle.blocks.specs.Means.{id_width, region_of, block_count, region_bytes, snapshot_of, flaw_in, entry_as};
 ghost use Rattle.refs.specs.Answer.{block_of};
 ghost use Rattle.refs.specs.Search.{clashes};
-ghost use Rattle.refs.specs.Whole.{entry_within, indexed};
+ghost use Rattle.refs.specs.Whole.{InRange, entry_within, indexed, region_read};
 
 use blocks::block::{BLOCK_SIZE, Entry, Region, block_name, sound_entry_at};
 use blocks::fitness::{Unfit, fitness};
@@ -34,7 +34,8 @@ pub(crate) struct FitRegion<'a> {
 impl<'a> FitRegion<'a> {
     // The number of the block that bears the name: by halves, since names rise.
     fn position(self, name: Joined) -> Option<usize>
-        ensures { indexed result (entries id_width (region_of self.entry.region) self.entry.blocks.now) ≡ block_of (path name.entry) (entries id_width (region_of self.entry.region) self.entry.blocks.now) }
+        ensures block { indexed result (entries id_width (region_of self.entry.region) self.entry.blocks.now) ≡ block_of (path name.entry) (entries id_width (region_of self.entry.region) self.entry.blocks.now) }
+        ensures inside { InRange result (block_count self.entry.blocks.now) }
     {
         let (blocks, _) = self.blocks.as_chunks::<BLOCK_SIZE>();
         // b is a region of one block.
@@ -79,7 +80,8 @@ impl<'a> FitSnapshot<'a> {
 
     // The loose region of a base. Without a common region the worktree's plays its part.
     pub(crate) fn loose(self, base: Base) -> FitRegion<'a>
-        ensures { entries id_width (region_of result.region) result.blocks.now ≡ region_at (base_of base) (store id_width (snapshot_of self.entry.snapshot)) }
+        ensures entries { entries id_width (region_of result.region) result.blocks.now ≡ region_at (base_of base) (store id_width (snapshot_of self.entry.snapshot)) }
+        ensures read { region_of result.region ≡ region_read (base_of base) (is_there (snapshot_of self.entry.snapshot).common) }
     {
         match (base, self.snapshot.common) {
             (Base::Shared, Some(_)) => self.region(Region::Common),

@@ -1,7 +1,7 @@
 // What a block holds.
 use crate::answers::Pending;
-use blocks::block::{Entry, Region, entry_at};
-use blocks::parse::id_of;
+use blocks::block::{Entry, Region, block_content, entry_at};
+use blocks::parse::{id_of, second_id_of};
 
 impl<P: Print> Pending<'_, P> {
     pub(crate) fn put_block(&mut self, region: Region, block: &[u8]) {
@@ -28,7 +28,7 @@ impl<P: Print> Pending<'_, P> {
                 self.put(b"packed");
                 self.put_bytes(name);
                 self.put_id(&id_of(target));
-                self.put_peeled(peeled.map(|p| id_of(p)));
+                self.put_peeled(peeled.map(|_| second_id_of(block_content(block, 0))));
             }
         }
     }

@@ -5,8 +5,8 @@ use Rattle.blocks.specs.Means.{region_of}
 use Rattle.refs.proofs.Halves.{told_is, lies, halves_find}
 use Rattle.refs.proofs.fit.FitRegion.position.Goals as goal
 
-pub returns : goal.returns
-returns c =
+pub returns-clause-block : goal.returns-clause-block
+returns-clause-block c =
     let self = c.args.self in
     let p = path c.args.name in
     let facts = c.binary_search_by-found.ensures in
