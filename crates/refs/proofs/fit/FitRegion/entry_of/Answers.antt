@@ -12,9 +12,9 @@ invariant_of-result c =
 pub returns-in_err-entry : goal.returns-in_err-entry
 returns-in_err-entry c =
     let self = c.args.self in
-    rw c.from_residual-in_err-entry.ensures (c.in_err-entry.ensures ∙ fit_taken id_width (region_of self.region) _ self.flawless c.in_ok-k.k ∙ c.in_ok-k.ensures)
+    rw c.from_residual-in_err-entry.ensures (c.in_err-entry.ensures ∙ fit_taken id_width (region_of self.region) _ self.flawless c.in_ok-k.k ∙ c.in_ok-k.ensures.block)
 
 pub returns : goal.returns
 returns c =
     let self = c.args.self in
-    c.in_ok-entry.ensures ∙ fit_taken id_width (region_of self.region) _ self.flawless c.in_ok-k.k ∙ c.in_ok-k.ensures
+    c.in_ok-entry.ensures ∙ fit_taken id_width (region_of self.region) _ self.flawless c.in_ok-k.k ∙ c.in_ok-k.ensures.block
