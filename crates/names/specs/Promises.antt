@@ -1,5 +1,5 @@
--- What private functions promise: the rules of a well-formed name, byte by byte; a component of a name; and the width of a
--- byte in an expansion.
+-- What private functions promise: the rules of a well-formed name, byte by byte; and the width of a byte in an expansion. And
+-- a component of a name, by which proofs/Components reads two of the rules.
 use Rattle.std.specs.Prelude.{ℕ, zero, suc, ◌+◌, [], ◌∷◌, Bool, true, ◌&&◌, ◌||◌, not, eqb, leb, length, get_or, if◌then◌else◌}
 use Rattle.names.specs.Bytes.{Bytes, bytes, slash, same, starts_with, ends_with, contains, every}
 use Rattle.names.specs.WellFormed.{allowed}

@@ -50,9 +50,9 @@ impl From<Unfit> for CallError {
 
 // A call that passed its checks: the snapshot, fit for search, and the namespace's expansion, empty where there is none.
 #[derive(Clone, Copy)]
-pub(crate) struct CheckedCall<'a> {
+pub struct CheckedCall<'a> {
     pub(crate) snapshot: FitSnapshot<'a>,
-    pub(crate) expansion: Name,
+    pub expansion: Name,
 }
 
 // Rows 3 to 5 of a name and a namespace: the earlier row first, whichever of the two it is.

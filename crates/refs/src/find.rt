@@ -49,8 +49,8 @@ impl From<Reason> for FindError {
 
 // A candidate and the entry that decides it.
 #[derive(Clone, Copy)]
-pub(crate) struct Hit<'a> {
-    pub(crate) name: Name,
+pub struct Hit<'a> {
+    pub name: Name,
     pub(crate) entry: BlockEntry<'a>,
 }
 
