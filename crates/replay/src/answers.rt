@@ -32,14 +32,13 @@ impl<'a, P: Print> Pending<'a, P> {
         self.waiting.clear();
     }
 
-    // What is longer than the room is written at once.
+    // The room is filled to its end before it is written.
     pub(crate) fn put(&mut self, s: &[u8]) {
-        if self.waiting.try_extend_from_slice(s).is_ok() {
-            return;
-        }
-        self.flush();
-        if self.waiting.try_extend_from_slice(s).is_err() {
-            let _ = self.to.write_all(s);
+        let (fits, more) = s.split_at(s.len().min(self.waiting.remaining_capacity()));
+        let _ = self.waiting.try_extend_from_slice(fits);
+        for part in more.chunks(ROOM) {
+            self.flush();
+            let _ = self.waiting.try_extend_from_slice(part);
         }
     }
 
