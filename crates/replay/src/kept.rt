@@ -6,9 +6,9 @@ use names::bytes::equal;
 #[derive(Drop)]
 pub(crate) struct Kept {
     worktree: Bytes,
-    common: Option<Bytes>,
+    common: Room,
     packed: Bytes,
-    namespace: Option<Bytes>,
+    namespace: Room,
 }
 
 impl Kept {
@@ -16,52 +16,68 @@ impl Kept {
     pub(crate) fn new() -> Kept {
         Kept {
             worktree: Bytes::new(),
-            common: None,
+            common: Room::new(),
             packed: Bytes::new(),
-            namespace: None,
+            namespace: Room::new(),
         }
     }
 
     pub(crate) fn snapshot(&self) -> Snapshot<'_> {
         Snapshot {
             worktree: self.worktree.as_slice(),
-            common: lent(&self.common),
+            common: self.common.lent(),
             packed: self.packed.as_slice(),
         }
     }
 
     pub(crate) fn namespace(&self) -> Option<&[u8]> {
-        lent(&self.namespace)
+        self.namespace.lent()
     }
 
     // None where the line sets nothing.
     pub(crate) fn set(&mut self, fields: &[&[u8]]) -> Option<()> {
         match *fields {
             [b"worktree", value] => read_bytes(value, &mut self.worktree),
-            [b"common", value] => read_optional(value, &mut self.common),
+            [b"common", value] => self.common.set(value),
             [b"packed", b"~"] => {
                 self.packed.clear();
                 Some(())
             }
             [b"packed", value] => read_bytes(value, &mut self.packed),
-            [b"namespace", value] => read_optional(value, &mut self.namespace),
+            [b"namespace", value] => self.namespace.set(value),
             _ => None,
         }
     }
 }
 
-fn lent(kept: &Option<Bytes>) -> Option<&[u8]> {
-    kept.as_ref().map(|bytes| bytes.as_slice())
+// A byte string, if it is there.
+// Kept: no Option, whose Some and None write as many bytes as the longest byte string has, for each line that sets one.
+#[derive(Drop)]
+struct Room {
+    there: bool,
+    bytes: Bytes,
 }
 
-// What a field gives that may say that there is none.
-fn read_optional(field: &[u8], to: &mut Option<Bytes>) -> Option<()> {
-    if equal(field, b"~") {
-        *to = None;
-        return Some(());
+impl Room {
+    fn new() -> Room {
+        Room {
+            there: false,
+            bytes: Bytes::new(),
+        }
     }
-    let mut read = Bytes::new();
-    read_bytes(field, &mut read)?;
-    *to = Some(read);
-    Some(())
+
+    fn lent(&self) -> Option<&[u8]> {
+        self.there.then_some(self.bytes.as_slice())
+    }
+
+    // What a field gives that may say that there is none. Where it gives nothing, all stays as it is.
+    fn set(&mut self, field: &[u8]) -> Option<()> {
+        if equal(field, b"~") {
+            self.there = false;
+            return Some(());
+        }
+        read_bytes(field, &mut self.bytes)?;
+        self.there = true;
+        Some(())
+    }
 }
