@@ -86,3 +86,8 @@ target_le s =
     let a = spaces_le (after (bytes "ref: ") s) in
     let b = line_le (skip_spaces (after (bytes "ref: ") s)) in
     omega arith
+
+-- what is no longer than `ref: ` names nothing
+pub target_short : (s : Bytes) → length s ≤ length (bytes "ref: ") → [] ≡ target_name_in s
+unfolding line skip_spaces
+target_short s h = rw (drop_of_length-le s h)

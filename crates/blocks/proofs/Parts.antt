@@ -11,7 +11,7 @@ use Rattle.std.specs.Borrow.{Bor}
 use Rattle.std.specs.Option.{MatchOption, unwrap_or}
 use mathlib.Core.Logic.{◌⊎◌, ⊎_elim}
 use borrow.Author.Tests.{leb-true, le-leb, lt-leb}
-use lib.Dec.{leb}
+use lib.Dec.{leb, ltb}
 use lib.ListN.{length, take, drop, length-take, length-drop, drop_of_length-le}
 use lib.Seq.{take_all}
 use Rattle.names.specs.Bytes.{Bytes}
@@ -20,7 +20,7 @@ use Rattle.names.proofs.Parts.{tail_part}
 use Rattle.blocks.specs.Layout.{block_size, name_at, content_at, longest_content}
 use Rattle.blocks.specs.Block.{between, name_length, content_length, block_name, block_content}
 use Rattle.blocks.specs.Entry.{loose, packed_record, peeled_in, entry_of}
-use Rattle.blocks.specs.Means.{block_at, block_count, name_within, content_within}
+use Rattle.blocks.specs.Means.{block_at, block_count, name_within, content_within, name_in, content_in}
 
 -- a part that begins at a and has n bytes
 pub part_is : (s : Bytes) (a n : ℕ) → between s a (a + n) ≡ take n (drop a s)
@@ -52,6 +52,17 @@ name_within_short b = within_longest longest (name_length b) (drop name_at b)
 pub content_within_short : (b : Bytes) → length (content_within b) ≤ longest_content
 unfolding block_content
 content_within_short b = within_longest longest_content (content_length b) (drop content_at b)
+
+in_longest : (m : ℕ) (b : Bool) (s : Bytes) → length s ≤ m → length (if b then s else []) ≤ m
+in_longest m true s h = h
+in_longest m false s h = omega arith
+
+-- the same of block k
+pub name_short : (s : Bytes) (k : ℕ) → length (name_in s k) ≤ longest
+name_short s k = in_longest longest (ltb k (block_count s)) _ (name_within_short (block_at s k))
+
+pub content_short : (s : Bytes) (k : ℕ) → length (content_in s k) ≤ longest_content
+content_short s k = in_longest longest_content (ltb k (block_count s)) _ (content_within_short (block_at s k))
 
 -- ---- entries
 
