@@ -2,11 +2,11 @@
 // though no more of it is read than the buffer holds.
 #![tactic(auto)]
 
-ghost use Rattle.std.specs.Prelude.{◌≡◌, ◌≤◌, ◌↔◌, ◌||◌, length, take, unwrap_or, IsErr, IfOk, IsTrue};
+ghost use Rattle.std.specs.Prelude.{◌≡◌, ◌≤◌, ◌↔◌, ◌||◌, length, take, replicate, unwrap_or, None, IsErr, IfOk, OnOk, OnErr, IsTrue};
 ghost use Rattle.std.specs.Io.KnownBytes.{Consumes};
 ghost use Rattle.std.specs.Option.{option_copied, option_map};
 ghost use Rattle.names.specs.Means.{held};
-ghost use Rattle.files.specs.Loaded.{is_failed, size_of, size_if_there};
+ghost use Rattle.files.specs.Loaded.{is_missing, is_failed, size_of, size_if_there};
 
 use arrayvec::ArrayString;
 use blocks::block::BLOCK_SIZE;
@@ -23,6 +23,37 @@ pub struct Told;
 
 // The whole size of a file that was looked for, and none of one that is missing.
 pub type Loaded = Result<Option<usize>, Told>;
+
+pub fn is_missing(l: Loaded) -> bool
+    ensures { result ≡ is_missing l }
+{
+    match l {
+        Ok(None) => true,
+        Ok(Some(_)) => false,
+        Err(Told) => false,
+    }
+}
+
+pub fn is_failed(l: Loaded) -> bool
+    ensures { result ≡ is_failed l }
+{
+    match l {
+        Ok(None) => false,
+        Ok(Some(_)) => false,
+        Err(Told) => true,
+    }
+}
+
+// The whole size; 0 of a file that is missing, or can't be read.
+pub fn size(l: Loaded) -> usize
+    ensures { result ≡ size_of l }
+{
+    match l {
+        Ok(None) => 0,
+        Ok(Some(n)) => n,
+        Err(Told) => 0,
+    }
+}
 
 // The whole sizes of a snapshot's files. A missing file is an absent common region, or an empty worktree or packed.
 // Kept: sizes beside the bytes, since a file may be larger than its buffer, and what refuses it asks its whole size.
@@ -161,7 +192,9 @@ fn read_open(
 
 // Reads the file of that name, and tells on standard error why one that is there can't be read. A name that is no UTF-8 text
 // can't be opened.
-pub fn load(rt: &(impl Files + Eprint), path: &[u8], buf: &mut [u8]) -> Loaded {
+pub fn load(rt: &(impl Files + Eprint), path: &[u8], buf: &mut [u8]) -> Loaded
+    ensures { IsTrue (is_missing result) → buf.new ≡ buf.old }
+{
     let Ok(path) = str::from_utf8(path) else {
         let _ = eprintln!(rt;
             "{}: not opened, since the name is no UTF-8 text",
@@ -189,19 +222,43 @@ pub struct SnapshotFiles {
 }
 
 impl SnapshotFiles {
-    pub fn load(rt: &(impl Files + Eprint)) -> Result<SnapshotFiles, Told> {
-        let mut worktree = [0u8; FILE_SIZE];
-        let mut common = [0u8; FILE_SIZE];
-        let mut packed = [0u8; FILE_SIZE];
-        let w = load(rt, b"worktree.blk", &mut worktree);
-        let c = load(rt, b"common.blk", &mut common);
-        let p = load(rt, b"packed.blk", &mut packed);
-        Ok(SnapshotFiles {
-            worktree,
-            common,
-            packed,
-            whole: sizes(w, c, p)?,
-        })
+    // Three files that are not there.
+    pub fn new() -> SnapshotFiles
+        ensures whole { (result.whole.worktree ≡ 0) × (result.whole.common ≡ None) × (result.whole.packed ≡ 0) }
+        ensures bytes { (result.worktree ≡ replicate FILE_SIZE 0) × (result.common ≡ replicate FILE_SIZE 0) × (result.packed ≡ replicate FILE_SIZE 0) }
+    {
+        SnapshotFiles {
+            worktree: [0u8; FILE_SIZE],
+            common: [0u8; FILE_SIZE],
+            packed: [0u8; FILE_SIZE],
+            whole: FileSizes {
+                worktree: 0,
+                common: None,
+                packed: 0,
+            },
+        }
+    }
+
+    // Reads the three, each into its place. Where one can't be read the sizes stay, and a common region that is missing leaves its
+    // place as it is.
+    pub fn fill(&mut self, rt: &(impl Files + Eprint)) -> Result<(), Told>
+        ensures failed { OnErr result (self.new.whole ≡ self.old.whole) }
+        ensures missing { OnOk result (self.new.whole.common ≡ None → self.new.common ≡ self.old.common) }
+    {
+        let w = load(rt, b"worktree.blk", &mut self.worktree);
+        let c = load(rt, b"common.blk", &mut self.common);
+        let p = load(rt, b"packed.blk", &mut self.packed);
+        self.whole = sizes(w, c, p)?;
+        Ok(())
+    }
+
+    // The same, by value: what a common region that is missing leaves is zeros.
+    pub fn load(rt: &(impl Files + Eprint)) -> Result<SnapshotFiles, Told>
+        ensures { IfOk result (λ f. f.whole.common ≡ None → f.common ≡ replicate FILE_SIZE 0) }
+    {
+        let mut files = SnapshotFiles::new();
+        files.fill(rt)?;
+        Ok(files)
     }
 
     // Where no file is larger than its buffer.

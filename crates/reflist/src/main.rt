@@ -3,15 +3,18 @@
 #![tactic(auto)]
 
 use files::{SnapshotFiles, write_out};
-use text::reflist::{report, size_report};
+use text::reflist::{Report, put_report, put_size_report};
 
-// Kept: four lines as in refshow: one function of both would take two closures and the text's size.
+// Kept: six lines as in refshow: one function of both would take two closures and the text's size. The files and the text are filled
+// in place, since each is many times what else the program holds, and handed on by value it is copied.
 fn main(rt: HostRuntime) {
-    let Ok(files) = SnapshotFiles::load(&rt) else {
+    let mut files = SnapshotFiles::new();
+    if files.fill(&rt).is_err() {
         return;
-    };
-    match size_report(files.whole.sizes()) {
-        Some(refused) => write_out(&rt, refused.as_bytes()),
-        None => write_out(&rt, report(files.snapshot()).as_bytes()),
     }
+    let mut out = Report::new();
+    if !put_size_report(&mut out, files.whole.sizes()) {
+        put_report(&mut out, files.snapshot());
+    }
+    write_out(&rt, out.as_bytes());
 }

@@ -5,7 +5,7 @@
 use files::{SnapshotFiles, write_out};
 use std::env::FillError;
 use std::rt::{Env, Files};
-use text::refshow::{show, size_show};
+use text::refshow::{Shown, put_show, put_size_show};
 
 // The longest argument that is read; a longer one counts as empty.
 const LONGEST_ARGUMENT: usize = 4096;
@@ -28,15 +28,17 @@ fn read_argument<'a>(
 }
 
 // Over the three files.
-// Kept: four lines as in reflist, for the reason that stands there.
+// Kept: six lines as in reflist, and in place, for the reasons that stand there.
 fn show_name(rt: &(impl Files + Print + Eprint), name: &[u8], namespace: Option<&[u8]>) {
-    let Ok(files) = SnapshotFiles::load(rt) else {
+    let mut files = SnapshotFiles::new();
+    if files.fill(rt).is_err() {
         return;
-    };
-    match size_show(files.whole.sizes()) {
-        Some(refused) => write_out(rt, refused.as_bytes()),
-        None => write_out(rt, show(files.snapshot(), name, namespace).as_bytes()),
     }
+    let mut out = Shown::new();
+    if !put_size_show(&mut out, files.whole.sizes()) {
+        put_show(&mut out, files.snapshot(), name, namespace);
+    }
+    write_out(rt, out.as_bytes());
 }
 
 fn main(rt: HostRuntime) {

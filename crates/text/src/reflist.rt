@@ -1,5 +1,5 @@
 // The text of `reflist`: a heading, a line for each entry or error, and the end with their count.
-ghost use Rattle.std.specs.Prelude.{◌≡◌, ◌+◌, ◌*◌, ◌++◌, ◌↔◌, length, IsSome};
+ghost use Rattle.std.specs.Prelude.{◌≡◌, ◌+◌, ◌*◌, ◌++◌, ◌↔◌, length, IsSome, IsTrue};
 ghost use Rattle.names.specs.Name.{longest};
 ghost use Rattle.names.specs.Category.{short_name};
 ghost use Rattle.names.specs.Means.{content};
@@ -128,36 +128,65 @@ fn put_listing(out: &mut Report, s: Snapshot<'_>)
     }
 }
 
-// The heading and why the sizes are refused.
-fn refusal(why: SizeError) -> Report
-    ensures { result ≡ heading ++ error_line (size_number why) }
+// The heading and why the sizes are refused, in place of what `refused` held.
+fn put_refusal(refused: &mut Report, why: SizeError)
+    ensures { refused.new ≡ heading ++ error_line (size_number why) }
 {
-    let mut refused = Text::new();
+    refused.clear();
     refused.put(b"full\tshort\ttarget\n");
-    put_error(&mut refused, u32::from(why));
-    refused
+    put_error(refused, u32::from(why));
 }
 
-// What is written of files whose sizes alone are refused.
+// What is written of files whose sizes alone are refused, in place of what `out` held: nothing where they are right. Whether they are
+// refused.
+#[tactic(auto, unfolding(crate::specs::Reflist::files_check))]
+pub fn put_size_report(out: &mut Report, sizes: Sizes) -> bool
+    ensures text { out.new ≡ size_report (files_check sizes.worktree sizes.common sizes.packed) }
+    ensures refused { IsTrue result ↔ IsSome (files_check sizes.worktree sizes.common sizes.packed) }
+{
+    match sizes.check(MOST_LISTED) {
+        Ok(()) => {
+            out.clear(); // nothing is told
+            false
+        }
+        Err(why) => {
+            put_refusal(out, why);
+            true
+        }
+    }
+}
+
+// The same, by value. The sizes are looked at first, since a text that is begun writes its whole room, as None does.
 #[tactic(auto, unfolding(crate::specs::Reflist::files_check))]
 pub fn size_report(sizes: Sizes) -> Option<Report>
     ensures text { or_empty result ≡ size_report (files_check sizes.worktree sizes.common sizes.packed) }
     ensures refused { IsSome result ↔ IsSome (files_check sizes.worktree sizes.common sizes.packed) }
 {
-    sizes.check(MOST_LISTED).err().map(refusal)
+    sizes.check(MOST_LISTED).err()?;
+    let mut out = Text::new();
+    put_size_report(&mut out, sizes);
+    Some(out)
 }
 
-// What is written of the files' bytes.
-pub fn report(s: Snapshot<'_>) -> Report
-    ensures { result ≡ report id_width (snapshot_of s.entry) }
+// What is written of the files' bytes, in place of what `out` held.
+pub fn put_report(out: &mut Report, s: Snapshot<'_>)
+    ensures { out.new ≡ report id_width (snapshot_of s.entry) }
 {
     match s.sizes().check(MOST_LISTED) {
         Ok(()) => {
-            let mut out = Text::new();
+            out.clear(); // before the heading
             out.put(b"full\tshort\ttarget\n");
-            put_listing(&mut out, s);
-            out
+            put_listing(out, s);
         }
-        Err(why) => refusal(why),
+        Err(why) => put_refusal(out, why),
     }
+}
+
+// The same, by value.
+pub fn report(s: Snapshot<'_>) -> Report
+    ensures { result ≡ report id_width (snapshot_of s.entry) }
+{
+    let mut out = Text::new();
+    put_report(&mut out, s);
+    out
 }

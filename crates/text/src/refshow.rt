@@ -1,5 +1,5 @@
 // The text of `refshow`: the id and the last reference reached, `not there`, or a refusal in words.
-ghost use Rattle.std.specs.Prelude.{◌≡◌, ◌++◌, ◌≤◌, ◌↔◌, length, IsSome};
+ghost use Rattle.std.specs.Prelude.{◌≡◌, ◌++◌, ◌≤◌, ◌↔◌, length, IsSome, IsTrue};
 ghost use Rattle.std.specs.Option.{option_copied};
 ghost use Rattle.names.specs.Bytes.{bytes};
 ghost use Rattle.names.specs.Means.{content};
@@ -119,100 +119,125 @@ fn put_unfit(out: &mut Shown, region: Region, block: usize)
     out.put(b"\n");
 }
 
-fn reached(id: &Id, last: &Name) -> Shown
-    ensures { result ≡ id.now.digits ++ tab ++ content last.now ++ newline }
+// Here and below what is put stands in place of what `out` held.
+fn put_reached(out: &mut Shown, id: &Id, last: &Name)
+    ensures { out.new ≡ id.now.digits ++ tab ++ content last.now ++ newline }
 {
-    let mut out = Text::new();
+    out.clear();
     out.put_id(id);
     out.put(b"\t");
     out.put_name(last);
     out.put(b"\n");
-    out
 }
 
-fn stopped(number: u32, last: &Name) -> Shown
-    ensures { result ≡ refused_line number ++ bytes "last reference reached: " ++ content last.now ++ newline }
+fn put_stopped(out: &mut Shown, number: u32, last: &Name)
+    ensures { out.new ≡ refused_line number ++ bytes "last reference reached: " ++ content last.now ++ newline }
 {
-    let mut out = Text::new();
-    put_refused(&mut out, number);
+    out.clear();
+    put_refused(out, number);
     out.put(b"last reference reached: ");
     out.put_name(last);
     out.put(b"\n");
-    out
 }
 
 // A refusal that has nothing beside its number.
-fn refusal(number: u32) -> Shown
-    ensures { result ≡ refused_line number }
+fn put_alone(lone: &mut Shown, number: u32)
+    ensures { lone.new ≡ refused_line number }
 {
-    let mut lone = Text::new();
-    put_refused(&mut lone, number);
-    lone
+    lone.clear();
+    put_refused(lone, number);
 }
 
 // A flaw of a region, 6 to 8, and where it is.
-fn flaw(found: Unfit) -> Shown
-    ensures { result ≡ show_text (unfit (flaw_in found)) }
+fn put_flaw(out: &mut Shown, found: Unfit)
+    ensures { out.new ≡ show_text (unfit (flaw_in found)) }
 {
     let Unfit {
         reason,
         region,
         block,
     } = found;
-    let mut out = Text::new();
-    put_refused(&mut out, u32::from(reason));
-    put_unfit(&mut out, region, block);
-    out
+    out.clear();
+    put_refused(out, u32::from(reason));
+    put_unfit(out, region, block);
 }
 
-fn not_there() -> Shown
-    ensures { result ≡ bytes "not there" ++ newline }
+fn put_not_there(out: &mut Shown)
+    ensures { out.new ≡ bytes "not there" ++ newline }
 {
-    let mut out = Text::new();
+    out.clear();
     out.put(b"not there\n");
-    out
 }
 
 // A call that is turned away.
-fn turned_away(why: CallError) -> Shown
-    ensures { result ≡ show_text (turned_back why) }
+fn put_turned_away(out: &mut Shown, why: CallError)
+    ensures { out.new ≡ show_text (turned_back why) }
 {
     match why {
-        CallError::Sizes(why) => refusal(u32::from(why)),
-        CallError::Names(why) => refusal(u32::from(why)),
-        CallError::Unfit(found) => flaw(found),
+        CallError::Sizes(why) => put_alone(out, u32::from(why)),
+        CallError::Names(why) => put_alone(out, u32::from(why)),
+        CallError::Unfit(found) => put_flaw(out, found),
     }
 }
 
 // How far following leads.
-fn followed(t: &Trail) -> Shown
-    ensures { result ≡ followed_text (trail_of t.now) }
+fn put_followed(out: &mut Shown, t: &Trail)
+    ensures { out.new ≡ followed_text (trail_of t.now) }
 {
     let last = &t.last.name;
     match t.end {
-        Ok(id) => reached(&id, last),
-        Err(why) => stopped(u32::from(why), last),
+        Ok(id) => put_reached(out, &id, last),
+        Err(why) => put_stopped(out, u32::from(why), last),
     }
 }
 
-// What is written of files whose sizes alone are refused.
+// What is written of files whose sizes alone are refused: nothing where they are right. Whether they are refused.
+#[tactic(auto, unfolding(crate::specs::Reflist::files_check))]
+pub fn put_size_show(out: &mut Shown, sizes: Sizes) -> bool
+    ensures text { out.new ≡ size_show (files_check sizes.worktree sizes.common sizes.packed) }
+    ensures refused { IsTrue result ↔ IsSome (files_check sizes.worktree sizes.common sizes.packed) }
+{
+    match sizes.check(MOST_LISTED) {
+        Ok(()) => {
+            out.clear(); // nothing is told
+            false
+        }
+        Err(why) => {
+            put_alone(out, u32::from(why));
+            true
+        }
+    }
+}
+
+// The same, by value. The sizes are looked at first, since a text that is begun writes its whole room, as None does.
 #[tactic(auto, unfolding(crate::specs::Reflist::files_check))]
 pub fn size_show(sizes: Sizes) -> Option<Shown>
     ensures text { or_empty result ≡ size_show (files_check sizes.worktree sizes.common sizes.packed) }
     ensures refused { IsSome result ↔ IsSome (files_check sizes.worktree sizes.common sizes.packed) }
 {
-    let why = sizes.check(MOST_LISTED).err()?;
-    Some(refusal(u32::from(why)))
+    sizes.check(MOST_LISTED).err()?;
+    let mut out = Text::new();
+    put_size_show(&mut out, sizes);
+    Some(out)
 }
 
 // Which commit a name leads to, in words.
+pub fn put_show(out: &mut Shown, s: Snapshot<'_>, name: &[u8], namespace: Option<&[u8]>)
+    ensures { out.new ≡ show_text (follow id_width (snapshot_of s.entry) name.now (option_copied namespace.entry)) }
+{
+    match follow(s, name, namespace) {
+        Ok(Some(trail)) => put_followed(out, &trail),
+        Ok(None) => put_not_there(out),
+        Err(FindError::Call(why)) => put_turned_away(out, why),
+        Err(FindError::Entry(why)) => put_alone(out, u32::from(why)),
+    }
+}
+
+// The same, by value.
 pub fn show(s: Snapshot<'_>, name: &[u8], namespace: Option<&[u8]>) -> Shown
     ensures { result ≡ show_text (follow id_width (snapshot_of s.entry) name.now (option_copied namespace.entry)) }
 {
-    match follow(s, name, namespace) {
-        Ok(Some(trail)) => followed(&trail),
-        Ok(None) => not_there(),
-        Err(FindError::Call(why)) => turned_away(why),
-        Err(FindError::Entry(why)) => refusal(u32::from(why)),
-    }
+    let mut out = Text::new();
+    put_show(&mut out, s, name, namespace);
+    out
 }
