@@ -71,6 +71,13 @@ impl Name {
         lend(&self.bytes, self.len)
     }
 
+    #[tactic(auto, unfolding(crate::specs::Means::held))]
+    pub(crate) fn clear(&mut self)
+        ensures { content self.new ≡ [] }
+    {
+        self.len = 0;
+    }
+
     // Puts s behind what is there, where both fit; where not, the name stays as it was.
     #[tactic(auto, using(crate::proofs::Held::push_refused, crate::proofs::Held::push_put))]
     pub fn push(&mut self, s: &[u8]) -> Result<(), TooLong>

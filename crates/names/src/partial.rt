@@ -5,10 +5,10 @@ ghost use Rattle.names.specs.Check.{checked};
 ghost use Rattle.names.specs.Name.{looks_full};
 ghost use Rattle.names.specs.Candidates.{full_name};
 ghost use Rattle.names.specs.Namespace.{names_check};
-ghost use Rattle.names.specs.Means.{partial_content, made_name, if_fits, check_of, checked_of};
+ghost use Rattle.names.specs.Means.{partial_content, made_name, pushed, if_fits, check_of, checked_of};
 
 use crate::bytes::starts_with;
-use crate::name::{LONGEST, Name, Refusal, is_pseudo_ref};
+use crate::name::{LONGEST, Name, Refusal, TooLong, is_pseudo_ref};
 use crate::validate::well_formed;
 
 // A name that may be the last part of a full one.
@@ -26,25 +26,50 @@ pub fn looks_like_full_name(s: &[u8], pseudo: bool) -> bool
         || (pseudo && is_pseudo_ref(s))
 }
 
-// The candidate for x with a directory in between, which ends with its slash or is empty.
-pub fn construct_full_name_ref(x: &[u8], inbetween: &[u8], pseudo: bool) -> Option<Name>
-    ensures { made_name result ≡ if_fits (full_name pseudo inbetween.now x.now) }
+// The candidate for x with a directory in between, which ends with its slash or is empty, in place of what the name held.
+pub fn put_full_name_ref(
+    out: &mut Name,
+    x: &[u8],
+    inbetween: &[u8],
+    pseudo: bool,
+) -> Result<(), TooLong>
+    ensures { pushed out.new result ≡ if_fits (full_name pseudo inbetween.now x.now) }
 {
     let front: &[u8] = if looks_like_full_name(x, pseudo) {
         b""
     } else {
         b"refs/"
     };
-    Name::joined(front, inbetween, x)
+    out.clear();
+    out.push_parts(front, inbetween, x)
 }
 
-// The last candidate for x: x/HEAD below remotes, itself a partial name that may look full.
+// The same, as a name of its own.
+pub fn construct_full_name_ref(x: &[u8], inbetween: &[u8], pseudo: bool) -> Option<Name>
+    ensures { made_name result ≡ if_fits (full_name pseudo inbetween.now x.now) }
+{
+    let mut name = Name::empty();
+    put_full_name_ref(&mut name, x, inbetween, pseudo).ok()?;
+    Some(name)
+}
+
+// The last candidate for x, in place of what the name held: x/HEAD below remotes, itself a partial name that may look full.
 #[tactic(auto, using(crate::proofs::Held::head_not))]
+pub fn put_remote_head(out: &mut Name, x: &[u8]) -> Result<(), TooLong>
+    ensures { pushed out.new result ≡ if_fits (full_name true (bytes "remotes/") (x.now ++ bytes "/HEAD")) }
+{
+    let mut head = Name::empty();
+    head.push_parts(b"", x, b"/HEAD")?;
+    put_full_name_ref(out, head.as_bytes(), b"remotes/", true)
+}
+
+// The same, as a name of its own.
 pub fn remote_head_candidate(x: &[u8]) -> Option<Name>
     ensures { made_name result ≡ if_fits (full_name true (bytes "remotes/") (x.now ++ bytes "/HEAD")) }
 {
-    let head = Name::joined(b"", x, b"/HEAD")?;
-    construct_full_name_ref(head.as_bytes(), b"remotes/", true)
+    let mut name = Name::empty();
+    put_remote_head(&mut name, x).ok()?;
+    Some(name)
 }
 
 // Whether s is a partial name: refused 3 over 250 bytes, then 4 if malformed.

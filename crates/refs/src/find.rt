@@ -19,7 +19,7 @@ use blocks::snapshot::Snapshot;
 use names::bytes::{Joined, equal};
 use names::find::{to_base_dir_and_relative_name, transform_full_name_for_lookup};
 use names::name::{Name, is_pseudo_ref};
-use names::partial::{construct_full_name_ref, remote_head_candidate};
+use names::partial::{put_full_name_ref, put_remote_head};
 
 // What stands between `refs/` and a partial name, in the order in which candidates are tried.
 const DIRECTORIES: [&[u8]; 4] = [b"", b"tags/", b"heads/", b"remotes/"];
@@ -91,7 +91,8 @@ impl<'a> CheckedCall<'a> {
     fn try_directory(&self, x: &[u8], between: &[u8], pseudo: bool) -> Option<Hit<'a>>
         ensures { hit_answer (content self.now.expansion) result ≡ looked_up (content self.now.expansion) (snapshot_of self.now.snapshot.snapshot) (full_name pseudo between.now x.now) true }
     {
-        let name = construct_full_name_ref(x, between, pseudo)?;
+        let mut name = Name::empty();
+        put_full_name_ref(&mut name, x, between, pseudo).ok()?;
         let entry = self.entry_for(name.as_bytes(), true)?;
         Some(Hit { name, entry })
     }
@@ -117,7 +118,8 @@ impl<'a> CheckedCall<'a> {
         if equal(x, b"HEAD") {
             return None;
         }
-        let name = remote_head_candidate(x)?;
+        let mut name = Name::empty();
+        put_remote_head(&mut name, x).ok()?;
         let entry = self.entry_for(name.as_bytes(), false)?;
         Some(Hit { name, entry })
     }
