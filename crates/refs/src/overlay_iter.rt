@@ -151,6 +151,7 @@ impl Positions {
 
     // What waits in a region from its position on, which may lie past its end.
     // Kept: e beside the snapshot, here and below: advance alone would make a struct of what C lends, and go_on, take and peek would take it apart.
+    #[inline(always)] // so that each region's own rules are compiled for it
     fn peek<'a>(self, s: Snapshot<'a>, region: Region, e: &[u8]) -> Option<Waiting<'a>>
         ensures waits { waiting_of e.now result ≡ waits_in (region_of region) e.now (snapshot_of s.entry) (positions_of self) }
         ensures stands { StandsIn region result }
